@@ -1,0 +1,3 @@
+// The C interface: each function is that of the library, under a name of its own, with the same contract.
+mod captures;
+mod floats;

@@ -1,0 +1,76 @@
+-- `capture::translate::number_rising` meets its contract. Each mark is replaced by the sum of the marks before it. Assumes nothing.
+use Rattle.capture.specs.Numbering.{sumBelow}
+use Rattle.capture.proofs.Tables.{Summed, sum-none, summed-start, summed-step, summed-end, sum-next}
+use Prim.Native.Nat.{_≤_, _-_}
+use mathlib.Core.Path.{_≡_, ap, sym, _∙_}
+use borrow.Author.Needs.{needs}
+use native.Mathlib.Omega.{arith}
+use lib.ListN.{length, take, getD, set}
+use Rattle.capture.proofs.translate.number_rising.Statement.{statement}
+use Rattle.capture.proofs.translate.number_rising.Tie as tie
+use Rattle.capture.proofs.translate.number_rising.Reads as reads
+use Rattle.capture.proofs.translate.number_rising.Lts as lts
+
+abbrev Inv-loop : tie.InvT-loop
+Inv-loop marks₀ next₀ v₀ marks next v = (v ≤ 256) × (next ≡ sumBelow marks₀ v) × (next ≤ v) × Summed marks₀ v marks
+
+abbrev μ-loop : tie.MeasureT-loop
+μ-loop marks₀ next₀ v₀ marks next v = 256 - v
+
+loop-holds : tie.Need-loop-holds Inv-loop μ-loop
+loop-holds c = (omega arith, sym (sum-none (c .args .marks .now)), omega arith, summed-start (c .args .marks .now) (c .pre .0))
+
+mul-here : tie.Need-mul-here Inv-loop μ-loop
+mul-here c = omega arith
+
+element-copy-out-here : tie.Need-element-copy-out-here Inv-loop μ-loop
+element-copy-out-here c = omega arith
+
+mul-marks : tie.Need-mul-marks Inv-loop μ-loop
+mul-marks c = omega arith
+
+element-write-marks : tie.Need-element-write-marks Inv-loop μ-loop
+element-write-marks c = omega arith
+
+add-next : tie.Need-add-next Inv-loop μ-loop
+add-next c = omega (arith, c .before .before .loop .inv .3 .left (c .before .before .loop .v) (omega arith), c .before .before .before .pre .1 (c .before .before .loop .v))
+
+add-v : tie.Need-add-v Inv-loop μ-loop
+add-v c = omega arith
+
+loop-less : tie.Need-loop-less Inv-loop μ-loop
+loop-less c = omega arith
+
+loop-again : tie.Need-loop-again Inv-loop μ-loop
+loop-again c = (
+  omega arith,
+  omega (arith, sum-next (c .before .before .before .args .marks .now) (c .before .before .loop .v), c .before .before .loop .inv .3 .left (c .before .before .loop .v) (omega arith)),
+  omega (arith, c .before .before .loop .inv .3 .left (c .before .before .loop .v) (omega arith), c .before .before .before .pre .1 (c .before .before .loop .v)),
+  summed-step (c .before .before .loop .v) (omega arith) (c .before .before .loop .inv .3) (c .before .before .loop .inv .1),
+)
+
+cast-result : tie.Need-cast-result Inv-loop μ-loop
+cast-result c = omega arith
+
+returns : tie.Need-returns Inv-loop μ-loop
+returns c =
+    let e : c .before .loop .v ≡ 256 = omega arith in
+    (c .before .loop .inv .1 ∙ ap (sumBelow (c .before .before .args .marks .now)) e, summed-end (c .before .loop .v) (omega arith) (c .before .loop .inv .3))
+
+pub number-rising-spec : {M : Type 1} → statement M
+number-rising-spec =
+    tie.close
+    (tie.spec
+    Inv-loop
+    μ-loop
+    loop-holds
+    mul-here
+    element-copy-out-here
+    mul-marks
+    element-write-marks
+    add-next
+    add-v
+    loop-less
+    loop-again
+    cast-result
+    returns)

@@ -1,0 +1,138 @@
+// The translators: a capture's values numbered from 0, by first sight (for MultiMCW) or in rising order (for MultiMMC).
+use crate::Alphabet;
+use crate::bits::SYMBOL_LIMIT;
+use answer::DONE;
+use answer::TOO_LONG;
+use answer::TOO_SHORT;
+ghost use mathlib.Core.Path.{_≡_};
+ghost use Prim.Native.Nat.{ℕ, _<_, _≤_};
+ghost use lib.ListN.{getD, length, replicate};
+ghost use Rattle.capture.specs.Alphabet.{alphabetNumber, alphabetOf, dense, distinct, outputOf, rising, sorted, written};
+ghost use Rattle.capture.specs.Numbering.{Holds, entered, markIn, nextAfter, sumBelow};
+
+// A value that was not seen yet: no number of a value is as large.
+const UNSEEN: u16 = 256;
+
+fn wide(x: u8) -> usize
+    ensures { λ r. ⌜ r ≡ x ⌝ }
+{
+    x as usize
+}
+
+// The number by which a translation of `symbols` to `out` is refused, or 0.
+fn refusal(symbols: &[u8], out: &[u8]) -> u64
+    ensures { λ r. ⌜ r ≡ alphabetNumber (now (symbols .entry)) (now (out .entry)) ⌝ }
+{
+    if SYMBOL_LIMIT < symbols.len() {
+        TOO_LONG
+    } else if out.len() < symbols.len() {
+        TOO_SHORT
+    } else {
+        DONE
+    }
+}
+
+// Gives value x the next number where it was not seen yet. Returns the number that is next then.
+fn enter(numbers: &mut [u16; 256], x: usize, next: u16) -> u16
+    requires { ⌜ (x < 256) × (next ≤ 256) ⌝ }
+    ensures { λ r. ⌜ (r ≡ nextAfter (now (numbers .entry)) x next) × (now (numbers .exit) ≡ entered (now (numbers .entry)) x next) ⌝ }
+{
+    if numbers[x] == UNSEEN {
+        numbers[x] = next;
+        return next + 1;
+    }
+    next
+}
+
+// Numbers the values by first sight as it translates. Returns how many there are.
+fn number_by_sight(symbols: &[u8], out: &mut [u8]) -> u64
+    requires { ⌜ length (now symbols) ≤ length (now out) ⌝ }
+    ensures { λ r. ⌜ (r ≡ distinct (now (symbols .entry))) × (now (out .exit) ≡ written (dense (now (symbols .entry))) (now (out .entry))) ⌝ }
+{
+    let mut numbers = [UNSEEN; 256];
+    let mut next: u16 = 0;
+    let mut i: usize = 0;
+    while i < symbols.len() {
+        let x = wide(symbols[i]);
+        next = enter(&mut numbers, x, next);
+        out[i] = numbers[x] as u8;
+        i += 1;
+    }
+    next as u64
+}
+
+// Marks the values that stand in the capture.
+fn mark(symbols: &[u8], marks: &mut [u16; 256])
+    requires { ⌜ now marks ≡ replicate 256 0 ⌝ }
+    ensures { λ _. ⌜ Holds (markIn (now (symbols .entry))) (now (marks .exit)) ⌝ }
+{
+    let mut i: usize = 0;
+    while i < symbols.len() {
+        marks[wide(symbols[i])] = 1;
+        i += 1;
+    }
+}
+
+// Gives each marked value its number in rising order. Returns how many there are.
+fn number_rising(marks: &mut [u16; 256]) -> u64
+    requires { ⌜ (length (now marks) ≡ 256) × ((v : ℕ) → getD (now marks) v 0 ≤ 1) ⌝ }
+    ensures { λ r. ⌜ (r ≡ sumBelow (now (marks .entry)) 256) × Holds (sumBelow (now (marks .entry))) (now (marks .exit)) ⌝ }
+{
+    let mut next: u16 = 0;
+    let mut v: usize = 0;
+    while v < 256 {
+        let here = marks[v];
+        marks[v] = next;
+        next += here;
+        v += 1;
+    }
+    next as u64
+}
+
+// Translates each symbol by its number.
+fn renumber(symbols: &[u8], numbers: &[u16; 256], out: &mut [u8])
+    requires { ⌜ (length (now symbols) ≤ length (now out)) × Holds (rising (now symbols)) (now numbers) ⌝ }
+    ensures { λ _. ⌜ now (out .exit) ≡ written (sorted (now (symbols .entry))) (now (out .entry)) ⌝ }
+{
+    let mut i: usize = 0;
+    while i < symbols.len() {
+        out[i] = numbers[wide(symbols[i])] as u8;
+        i += 1;
+    }
+}
+
+// Numbers the values in rising order and translates. Returns how many there are.
+fn number_by_value(symbols: &[u8], out: &mut [u8]) -> u64
+    requires { ⌜ length (now symbols) ≤ length (now out) ⌝ }
+    ensures { λ r. ⌜ (r ≡ distinct (now (symbols .entry))) × (now (out .exit) ≡ written (sorted (now (symbols .entry))) (now (out .entry))) ⌝ }
+{
+    let mut numbers = [0u16; 256];
+    mark(symbols, &mut numbers);
+    let size = number_rising(&mut numbers);
+    renumber(symbols, &numbers, out);
+    size
+}
+
+// dense_alphabet: the capture's values numbered by first sight.
+pub fn dense_alphabet(symbols: &[u8], out: &mut [u8]) -> Alphabet
+    ensures { λ r. ⌜ (r ≡ alphabetOf (now (symbols .entry)) (now (out .entry))) × (now (out .exit) ≡ outputOf dense (now (symbols .entry)) (now (out .entry))) ⌝ }
+{
+    let number = refusal(symbols, out);
+    if number != DONE {
+        return Alphabet { number, size: 0 };
+    }
+    let size = number_by_sight(symbols, out);
+    Alphabet { number, size }
+}
+
+// value_sorted_alphabet: the capture's values numbered in rising order.
+pub fn value_sorted_alphabet(symbols: &[u8], out: &mut [u8]) -> Alphabet
+    ensures { λ r. ⌜ (r ≡ alphabetOf (now (symbols .entry)) (now (out .entry))) × (now (out .exit) ≡ outputOf sorted (now (symbols .entry)) (now (out .entry))) ⌝ }
+{
+    let number = refusal(symbols, out);
+    if number != DONE {
+        return Alphabet { number, size: 0 };
+    }
+    let size = number_by_value(symbols, out);
+    Alphabet { number, size }
+}

@@ -1,0 +1,3 @@
+-- What the proofs of several functions share.
+pub mod Signs
+pub mod Cases

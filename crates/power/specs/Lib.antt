@@ -1,0 +1,2 @@
+-- What the contract of `power` cites.
+pub mod Power

@@ -1,0 +1,6 @@
+pub mod Cases
+pub mod Trace
+pub mod Standing
+pub mod Held
+pub mod Step
+pub mod Examples

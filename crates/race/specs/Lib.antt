@@ -1,0 +1,2 @@
+pub mod Race
+pub mod Held

@@ -1,0 +1,12 @@
+pub mod Powers
+pub mod Factors
+pub mod FromZero
+pub mod Compare
+pub mod Operations
+pub mod HalfUnit
+pub mod RelativeError
+pub mod Exact
+pub mod Unique
+pub mod Monotone
+pub mod Ranges
+pub mod Midpoint
