@@ -1,7 +1,6 @@
 // Captures: the bit reader and the translators.
 use capture::Alphabet;
 use capture::BitRead;
-
 ghost use mathlib.Core.Path.{_≡_};
 ghost use Rattle.capture.specs.Alphabet.{alphabetOf, dense, outputOf, sorted};
 ghost use Rattle.capture.specs.Reader.{bitRead};

@@ -1,7 +1,10 @@
 // Real arithmetic.
+use answer::Value;
 ghost use mathlib.Core.Path.{_≡_};
 ghost use lib.Ieee.{binary64};
 ghost use Rattle.closeness.specs.Close.{relEpsilonEqual};
+ghost use Rattle.entropy.specs.MinEntropy.{minEntropyOf};
+ghost use Rattle.ln.specs.Ln.{lnOf};
 ghost use Rattle.power.specs.Power.{powerOf};
 ghost use Rattle.sqrt.specs.Sqrt.{sqrtOf};
 
@@ -33,4 +36,20 @@ pub extern "C" fn abutfern_power(x: f64, n: u64) -> f64
     ensures { λ r. ⌜ r ≡ powerOf x n ⌝ }
 {
     power::power(x, n)
+}
+
+// The natural logarithm of x.
+#[no_mangle]
+pub extern "C" fn abutfern_ln(x: f64) -> f64
+    ensures { λ r. ⌜ r ≡ lnOf x ⌝ }
+{
+    ln::ln(x)
+}
+
+// The min-entropy of a probability from 1/256 to 1.
+#[no_mangle]
+pub extern "C" fn abutfern_min_entropy(p: f64) -> Value
+    ensures { λ r. ⌜ r ≡ minEntropyOf p ⌝ }
+{
+    entropy::min_entropy(p)
 }

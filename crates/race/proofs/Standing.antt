@@ -8,7 +8,7 @@ use native.Mathlib.Numerals.{add-one}
 use lib.Dec.{leb}
 use lib.ListN.{length, getD, set, replicate, length-set, length-replicate, length-append, List·getD-append}
 use lib.Seq.{getD-set-same, getD-set-other, getD-at}
-use Rattle.race.specs.Race.{Guess, Verdict, hit, miss, none, judge, Standing, point, settle, scored, Event, verdictOf, hits, longest, standing, event, events, correct, longestRun, finalScore}
+use Rattle.race.specs.Race.{Guess, silent, Verdict, hit, miss, none, judge, Standing, point, settle, scored, Event, verdictOf, hits, longest, standing, event, events, correct, longestRun, finalScore}
 use Rattle.race.proofs.Cases.{same?}
 use Rattle.race.proofs.Trace.{hits-le, longest-le-hits, hits-longest}
 
@@ -67,6 +67,12 @@ module _ (g : ℕ → Guess) (x : ℕ) (st : Standing) where
   unfolding scored
   scored-ext g′ zero e = refl
   scored-ext g′ (suc m) e = rw (e m (omega arith), scored-ext g′ m (λ j l. e j (omega arith)))
+
+  -- where all are silent, nothing changes
+  pub scored-silent : (m : ℕ) → ((j : ℕ) → j < m → g j ≡ silent) → scored g x st m ≡ st
+  unfolding scored
+  scored-silent zero e = refl
+  scored-silent (suc m) e = rw (e m (omega arith)) (scored-silent m (λ j l. e j (omega arith)))
 
   -- one step, by the verdict
   pub scored-hit : (j : ℕ) → judge (g j) x ≡ hit → scored g x st (j + 1) ≡ point (scored g x st j) j

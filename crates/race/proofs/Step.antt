@@ -5,11 +5,11 @@ use Prim.Native.Nat.{ℕ, suc, _+_, _≤_, _<_, max}
 use native.Mathlib.Omega.{arith}
 use native.Mathlib.Numerals.{add-one}
 use lib.ListN.{length, getD, replicate}
-use Rattle.race.specs.Race.{Guess, judge, Standing, scored, Event, verdictOf, hitOf, hits, longest, standing, event, events}
+use Rattle.race.specs.Race.{Guess, silent, judge, Standing, scored, Event, verdictOf, hitOf, hits, longest, standing, event, events}
 use Rattle.race.specs.Held.{silence, heardFrom, after, tallied, counterLimit, Countable, Scorable}
 use Rattle.race.specs.declared.Tally.{Tally}
-use Rattle.race.proofs.Trace.{hits-append, hits-le, runAfter, runAfter-snoc, runAfter-le, longest-snoc}
-use Rattle.race.proofs.Standing.{scored-ext, standing-length, standing-winner, standing-le, events-length}
+use Rattle.race.proofs.Trace.{hits-append, hits-le, runAfter, runAfter-snoc, runAfter-le, runAfter-le-longest, longest-snoc}
+use Rattle.race.proofs.Standing.{scored-ext, scored-silent, standing-length, standing-winner, standing-le, events-length}
 
 -- the counts and the standing that the code holds after n places
 pub record Raced (m first : ℕ) (guess : ℕ → ℕ → Guess) (truth : ℕ → ℕ) (n winner : ℕ) (scores : List ℕ) (t : Tally) : Type 0 where
@@ -54,6 +54,25 @@ module _ {m first : ℕ} {guess : ℕ → ℕ → Guess} {truth : ℕ → ℕ} {
         within = omega (arith, race-length, race-winner p);
         scores-fit = λ j. omega (arith, race-score j);
       }
+
+  -- a place before the first one, at which every sub-predictor is silent, changes nothing
+  module _ (x : ℕ) (gs : List ℕ) (some : 0 < m) (many : length gs ≡ m) (none-said : (j : ℕ) → j < m → heardFrom gs j ≡ silent) where
+    tally-kept : (t′ : Tally) → t′ ≡ tallied (judge (heardFrom gs winner) x) t → t′ ≡ t
+    tally-kept t′ e =
+        let h : t .hits + 0 ≡ t .hits = omega arith in
+        let l : max (t .longest) (t .run) ≡ t .longest = omega (arith, R .run-is, R .longest-is, runAfter-le-longest (events m first guess truth n)) in
+        e ∙ rw (none-said winner (race-winner some), h, l)
+
+    pub race-idle : (winner′ : ℕ) (scores′ : List ℕ) (t′ : Tally) → after winner′ scores′ ≡ scored (heardFrom gs) x (after winner scores) (length gs) → t′ ≡ tallied (judge (heardFrom gs winner) x) t
+        → Raced m first guess truth n winner′ scores′ t′
+    race-idle winner′ scores′ t′ se te =
+        rw (tally-kept t′ te)
+        (record {
+          stands = se ∙ rw many (scored-silent (heardFrom gs) x (after winner scores) m none-said) ∙ R .stands;
+          hits-are = R .hits-are;
+          run-is = R .run-is;
+          longest-is = R .longest-is;
+        })
 
   -- the guesses gs of the n-th place, where x comes
   module _ (x : ℕ) (gs : List ℕ) (some : 0 < m) (many : length gs ≡ m) (came : x ≡ truth (first + n)) (said : (j : ℕ) → j < m → heardFrom gs j ≡ guess (first + n) j) where

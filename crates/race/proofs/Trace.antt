@@ -168,6 +168,15 @@ scan-is r l (e ∷ es) p =
 scan-longest : (es : List Event) → scan 0 0 es ≡ longest es
 scan-longest es = omega (arith, scan-is 0 0 es (omega arith), stretch-le-longest es)
 
+scan-run : (r l : ℕ) (es : List Event) → r ≤ l → runAfter r es ≤ scan r l es
+unfolding scan runAfter
+scan-run r l [] p = p
+scan-run r l (e ∷ es) p = scan-run (runOf (verdictOf e) r) (max l (runOf (verdictOf e) r)) es (omega arith)
+
+-- the run at the end is no longer than the longest
+pub runAfter-le-longest : (es : List Event) → runAfter 0 es ≤ longest es
+runAfter-le-longest es = omega (arith, scan-run 0 0 es (omega arith), scan-longest es)
+
 -- one event more
 pub longest-snoc : (es : List Event) (e : Event) → longest (es ++ (e ∷ [])) ≡ max (longest es) (runOf (verdictOf e) (runAfter 0 es))
 longest-snoc es e =

@@ -10,3 +10,4 @@ pub mod Unique
 pub mod Monotone
 pub mod Ranges
 pub mod Midpoint
+pub mod Products

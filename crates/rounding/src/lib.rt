@@ -8,6 +8,7 @@
 //   HalfUnit       a rounded value is at most half a unit in the last place away
 //   RelativeError  in the normal range, at most 1 part in 2 ^ prec away: 2 ^ -53 for doubles
 //   Factors        how such errors add up over several operations
+//   Products       the error of a product of values that carry errors already
 //   Exact          what fits is exact; scaling by a power of two
 //   Unique         a value that fits is what any fraction of its size rounds to
 //   Monotone       rounding keeps the order, and so do the operations

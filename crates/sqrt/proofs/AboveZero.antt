@@ -1,12 +1,13 @@
--- Of the doubles, those that are no NaN, no zero and not below zero, and whose pattern is not the infinity's, are finite and above zero: their patterns lie between
+-- What the tests against 0 tell of a double: which are zeros, and which are below zero. Of the doubles, those that are no NaN, no zero and not below zero, and whose pattern is not the infinity's, are finite and above zero: their patterns lie between
 -- that of 0 and that of the infinity. Assumes nothing.
 use mathlib.Core.Path.{_≡_, refl, sym, ap, _∙_, subst}
 use Prim.Native.Nat.{ℕ, zero, suc, _+_, _-_, _*_, _/_, _%_, _^_, _≤_, _<_}
-use native.Mathlib.Nat.{mul-pos, mul-le-mul-right, mul-lt-mul-of-pos-right, le-trans, le-of-eq, lt-of-lt-of-le, le-div-iff-mul-le, div-lt-iff-lt-mul, zero-add, zero-lt-suc, mul-right-comm, zero-mul, one-mul}
+use mathlib.Core.Logic.{_⊎_, inl, inr}
+use native.Mathlib.Nat.{lt-irrefl, mul-pos, mul-le-mul-right, mul-lt-mul-of-pos-right, le-trans, le-of-eq, lt-of-lt-of-le, le-div-iff-mul-le, div-lt-iff-lt-mul, zero-add, zero-lt-suc, mul-right-comm, zero-mul, one-mul}
 use native.Mathlib.Omega.{arith}
-use mathlib.Core.Bool.{Bool, true, false, _&&_, _||_, Bool·beq, true≢false}
+use mathlib.Core.Bool.{Bool, true, false, _&&_, _||_, Bool·beq, true≢false, false≢true}
 use lib.IntN.{ℤ, pos}
-use lib.Dec.{T, ltb, eqb, leb, leb→le, ltb→lt, lt→ltb}
+use lib.Dec.{T, ltb, eqb, leb, leb→le, ltb→lt, lt→ltb, eqb→eq}
 use lib.Pow.{pow-add, pow-pos}
 use lib.Ieee.{Float, nan, inf, fin, binary64, up, down, size, ofBits, toBits, fits, ne, eq, lt}
 use lib.Ieee.Bits.{is-true, ofBits-toBits}
@@ -23,6 +24,39 @@ naught = fin false 0 (pos 0)
 pub naught-is : ofBits binary64 0 ≡ naught
 unfolding ofBits
 naught-is = refl
+
+not-zero : (s : Bool) (m : ℕ) (e : ℤ) → eq (fin s (suc m) e) naught ≡ true → ⊥
+unfolding eq
+not-zero s m e h =
+    let a = suc m * up e * 1 in
+    let z : a ≡ 0 * down e = eqb→eq a (0 * down e) (and-l (eqb a (0 * down e)) (Bool·beq s false || eqb a 0) (subst T (sym h) tt)) in
+    lt-irrefl 0 (subst (λ (n : ℕ). 0 < n) (z ∙ zero-mul (down e)) (mul-pos (mul-pos (zero-lt-suc m) (up-pos e)) (zero-lt-suc 0)))
+
+-- only a zero equals 0
+pub zero-only : (x : Float) → eq x naught ≡ true → (s : Bool) × (e : ℤ) × (x ≡ fin s zero e)
+zero-only nan h = absurd (false≢true (sym nan-equals-none ∙ h))
+  where
+    nan-equals-none : eq nan naught ≡ false
+    nan-equals-none = unfold eq in refl
+zero-only (inf s) h = absurd (false≢true (sym (infinite-equals-none s) ∙ h))
+  where
+    infinite-equals-none : (s : Bool) → eq (inf s) naught ≡ false
+    infinite-equals-none s = unfold eq in refl
+zero-only (fin s zero e) h = (s, e, refl)
+zero-only (fin s (suc m) e) h = absurd (not-zero s m e h)
+
+-- what is below 0 is minus infinity, or finite
+pub negative-only : (x : Float) → lt x naught ≡ true → (x ≡ inf true) ⊎ ((m : ℕ) × (e : ℤ) × (x ≡ fin true (suc m) e))
+unfolding lt
+negative-only nan h = absurd (false≢true h)
+negative-only (inf true) h = inl refl
+negative-only (inf false) h = absurd (false≢true h)
+negative-only (fin true zero e) h = absurd (lt-irrefl 0 (ltb→lt 0 0 (subst (λ (n : ℕ). T (ltb 0 n)) (λ i. zero-mul (up e) i * 1 + zero-mul (down e) i) (subst T (sym h) tt))))
+negative-only (fin true (suc m) e) h = inr (m, e, refl)
+negative-only (fin false m e) h = absurd (none (m * up e * 1) (0 * down e) (zero-mul (down e)) (ltb→lt (m * up e * 1) (0 * down e) (subst T (sym h) tt)))
+  where
+    none : (a b : ℕ) → b ≡ 0 → a < b → ⊥
+    none a b e h = omega arith
 
 zero-equals : (s : Bool) (e : ℤ) → eq (fin s zero e) naught ≡ true
 unfolding eq
@@ -118,3 +152,7 @@ infinity-only x h e = sym (ofBits-toBits binary64 x h) ∙ ap (ofBits binary64) 
   where
     read : ofBits binary64 0x7ff0_0000_0000_0000 ≡ inf false
     read = unfold ofBits in refl
+
+-- a value of n units, n above 0, is no zero
+pub some-units : (e : ℤ) (n c : ℕ) → 0 < n → zero * up e * c ≡ n * down e → ⊥
+some-units e n c h k = lt-irrefl 0 (subst (λ (x : ℕ). 0 < x) (sym k ∙ ap (λ (y : ℕ). y * c) (zero-mul (up e)) ∙ zero-mul c) (mul-pos h (down-pos e)))

@@ -4,7 +4,7 @@
 use mathlib.Core.Path.{_≡_, refl, sym, ap, _∙_, subst}
 use mathlib.Core.Logic.{_⊎_, inl, inr}
 use Prim.Native.Nat.{ℕ, suc, _+_, _-_, _*_, _/_, _%_, _^_, _≤_, _<_}
-use native.Mathlib.Nat.{le-antisymm, le-of-suc-le-suc, add-comm, le-trans, le-of-eq, lt-of-lt-of-le, lt-of-le-of-lt, lt-of-not-le, lt-irrefl, le-of-lt, eq-or-lt-of-le, mul-assoc, mul-comm, mul-one, add-mul, mul-pos, mul-le-mul, mul-le-mul-right, mul-lt-mul-of-pos-right, lt-of-mul-lt-mul-right, pow-succ'}
+use native.Mathlib.Nat.{le-antisymm, le-of-suc-le-suc, add-comm, le-trans, le-of-eq, lt-of-lt-of-le, lt-of-le-of-lt, lt-of-not-le, lt-irrefl, le-of-lt, eq-or-lt-of-le, mul-assoc, mul-one, add-mul, mul-pos, mul-le-mul, mul-le-mul-right, mul-lt-mul-of-pos-right, lt-of-mul-lt-mul-right, pow-succ'}
 use native.Mathlib.Omega.{arith}
 use mathlib.Core.Bool.{Bool, true, false, not, cond}
 use lib.Dec.{T, eqb, eqb→eq, eqb·suc-zero, ltb, ltb→lt, nltb→le}
@@ -12,7 +12,7 @@ use lib.Pow.{pow-add, pow-pos, pow-mono}
 use lib.Ieee.{Float, binary64, ofBits, size}
 use lib.Ieee.Exact.{HasValue, units-val}
 use Rattle.sqrt.specs.Root.{root}
-use Rattle.sqrt.proofs.Roots.{root-is, sq-suc, sq-dbl, four-pow}
+use Rattle.sqrt.proofs.Roots.{root-is, sq-suc, sq-dbl, sq-mul, sq-lt, four-pow}
 use Rattle.sqrt.specs.Sqrt.{rounded, sqrtOf}
 use Rattle.sqrt.specs.Steps.{unitsOf}
 use Rattle.sqrt.proofs.Powers.{even-pow, odd-pow, joined, high-side}
@@ -21,17 +21,6 @@ use Rattle.sqrt.proofs.Rounded.{root-54, sig-in, rounded-is, below-top,
 use Rattle.sqrt.proofs.Special.{root-of-pattern}
 
 -- ---- squares
-
-sq-lt : (a b : ℕ) → a < b → a * a < b * b
-sq-lt a b h =
-    let s : (a + 1) * (a + 1) ≤ b * b = mul-le-mul (up a b h) (up a b h) in
-    omega (arith, sq-suc a)
-  where
-    up : (a b : ℕ) → a < b → a + 1 ≤ b
-    up a b h = omega arith
-
-sq-mul : (a b : ℕ) → a * b * (a * b) ≡ a * a * (b * b)
-sq-mul a b = mul-assoc a b (a * b) ∙ ap (λ (x : ℕ). a * x) (sym (mul-assoc b a b) ∙ ap (λ (x : ℕ). x * b) (mul-comm b a) ∙ mul-assoc a b b) ∙ sym (mul-assoc a a (b * b))
 
 over : (u p v s : ℕ) → 0 < p → v < u * u → u * p ≤ s → v * (p * p) < s * s
 over u p v s P h l = lt-of-lt-of-le (mul-lt-mul-of-pos-right h (mul-pos P P)) (le-trans (le-of-eq (sym (sq-mul u p))) (mul-le-mul l l))

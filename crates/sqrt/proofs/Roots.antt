@@ -1,7 +1,7 @@
 -- `root n` is the largest number whose square is at most n, and no other number is. Assumes nothing.
 use mathlib.Core.Path.{_≡_, refl, sym, ap, _∙_, subst}
-use Prim.Native.Nat.{ℕ, zero, suc, _+_, _*_, _/_, _^_, _≤_, _<_}
-use native.Mathlib.Nat.{mul-one, mul-assoc, mul-left-comm, add-mul, mul-add, le-antisymm, le-trans, le-of-eq, mul-le-mul-left, lt-of-le-of-lt, lt-of-lt-of-le, lt-of-not-le, lt-irrefl, mul-le-mul, pow-succ'}
+use Prim.Native.Nat.{ℕ, zero, suc, _+_, _*_, _/_, _^_, _≤_, _<_, zero-le}
+use native.Mathlib.Nat.{mul-one, mul-assoc, mul-left-comm, add-mul, mul-add, le-antisymm, le-trans, le-of-eq, mul-le-mul-left, lt-of-le-of-lt, lt-of-lt-of-le, lt-of-not-le, lt-irrefl, le-of-lt, mul-pos, mul-lt-mul-of-pos-right, mul-le-mul, pow-succ'}
 use native.Mathlib.Omega.{arith}
 use mathlib.Core.Bool.{Bool, true, false, not, cond}
 use lib.Dec.{T, leb, leb→le, nleb→lt}
@@ -61,7 +61,21 @@ pub root-is : (n : ℕ) → IsRoot n (root n)
 unfolding root
 root-is n = rootIn-is (size n) n (lt-of-lt-of-le (size-lt n) (two-le-four (size n)))
 
+-- ---- squares
+
+pub four-pos : (k : ℕ) → 0 < 4 ^ k
+four-pos k = subst (λ (x : ℕ). 0 < x) (sym (four-pow k)) (mul-pos (pow-pos k) (pow-pos k))
+
+pub sq-mul : (a b : ℕ) → a * b * (a * b) ≡ a * a * (b * b)
+sq-mul a b = mul-assoc a b (a * b) ∙ ap (λ (x : ℕ). a * x) (mul-left-comm b a b) ∙ sym (mul-assoc a a (b * b))
+
+pub sq-pow : (a k : ℕ) → a * 2 ^ k * (a * 2 ^ k) ≡ a * a * 4 ^ k
+sq-pow a k = sq-mul a (2 ^ k) ∙ ap (λ (x : ℕ). a * a * x) (sym (four-pow k))
+
 -- squares are in the order of their roots
+pub sq-lt : (a b : ℕ) → a < b → a * a < b * b
+sq-lt a b h = lt-of-le-of-lt (mul-le-mul-left a (le-of-lt h)) (mul-lt-mul-of-pos-right h (lt-of-le-of-lt zero-le h))
+
 pub sq-lt-back : (a b : ℕ) → a * a < b * b → a < b
 sq-lt-back a b h = lt-of-not-le (λ (g : b ≤ a). lt-irrefl (a * a) (lt-of-lt-of-le h (mul-le-mul g g)))
 

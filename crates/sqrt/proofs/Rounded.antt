@@ -1,26 +1,20 @@
 -- `rounded` at m * 4 ^ h with an m of 53 or 54 digits: its pattern is the exponent's field h - 26 and the root of m * 2 ^ 54, halved and rounded. Assumes nothing.
 use mathlib.Core.Path.{_≡_, sym, ap, _∙_, subst}
 use Prim.Native.Nat.{ℕ, suc, _+_, _-_, _*_, _/_, _^_, _≤_, _<_}
-use native.Mathlib.Nat.{le-trans, le-of-eq, lt-of-lt-of-le, lt-of-le-of-lt, mul-assoc, mul-left-comm, mul-le-mul-right, mul-lt-mul-of-pos-right, mul-div-cancel, mul-pos, mul-le-mul}
+use native.Mathlib.Nat.{le-trans, le-of-eq, lt-of-lt-of-le, lt-of-le-of-lt, mul-assoc, mul-le-mul-right, mul-lt-mul-of-pos-right, mul-div-cancel, mul-le-mul}
 use native.Mathlib.Omega.{arith}
 use mathlib.Core.Bool.{false, not}
 use lib.Dec.{T, ltb, lit<}
-use lib.Pow.{pow-add, pow-pos, pow-mono, pow-lt}
+use lib.Pow.{pow-add, pow-mono, pow-lt}
 use lib.Ieee.{Float, inf, binary64, size, odd, units, fits, isNan, toBits}
 use lib.Ieee.Fits.{odd-fits, cond-fits, inf-fits}
 use lib.Ieee.Exact.{HasValue, units-val}
 use Rattle.sqrt.specs.Root.{root}
 use Rattle.sqrt.specs.Sqrt.{rounded}
 use Rattle.sqrt.specs.Steps.{Rooted}
-use Rattle.sqrt.proofs.Roots.{root-is, sq-lt-back, four-pow}
+use Rattle.sqrt.proofs.Roots.{root-is, sq-lt-back, sq-pow, four-pos}
 use Rattle.sqrt.proofs.Shift.{size-exact}
 use Rattle.sqrt.proofs.Patterns.{toBits-value, bits-of, value-no-nan}
-
-sq-mul : (a b : ℕ) → a * b * (a * b) ≡ a * a * (b * b)
-sq-mul a b = mul-assoc a b (a * b) ∙ ap (λ (x : ℕ). a * x) (mul-left-comm b a b) ∙ sym (mul-assoc a a (b * b))
-
-sq-pow : (a h : ℕ) → a * 2 ^ h * (a * 2 ^ h) ≡ a * a * 4 ^ h
-sq-pow a h = sq-mul a (2 ^ h) ∙ ap (λ (x : ℕ). a * a * x) (sym (four-pow h))
 
 -- the root of what lies between two squares
 root-lt : (n b : ℕ) → n < b * b → root n < b
@@ -36,7 +30,7 @@ module _ (m : ℕ) (lo : 2 ^ 52 ≤ m) (hi : m < 2 ^ 54) where
   root-size : (h : ℕ) → size (root (m * 4 ^ h)) ≡ 27 + h
   root-size h =
       let n = m * 4 ^ h in
-      let P : 0 < 4 ^ h = subst (λ (x : ℕ). 0 < x) (sym (four-pow h)) (mul-pos (pow-pos h) (pow-pos h)) in
+      let P : 0 < 4 ^ h = four-pos h in
       let a : 2 ^ 26 * 2 ^ h ≤ root n = root-ge n (2 ^ 26 * 2 ^ h) (le-trans (le-of-eq (sq-pow (2 ^ 26) h)) (mul-le-mul-right (4 ^ h) lo)) in
       let b : root n < 2 ^ 27 * 2 ^ h = root-lt n (2 ^ 27 * 2 ^ h) (lt-of-lt-of-le (mul-lt-mul-of-pos-right hi P) (le-of-eq (sym (sq-pow (2 ^ 27) h)))) in
       size-exact (26 + h) (root n) (le-trans (le-of-eq (pow-add 2 26 h)) a) (lt-of-lt-of-le b (le-of-eq (sym (pow-add 2 27 h) ∙ ap (λ (x : ℕ). 2 ^ x) (one-up h)))) ∙ sym (one-up h)
@@ -56,7 +50,7 @@ module _ (m : ℕ) (lo : 2 ^ 52 ≤ m) (hi : m < 2 ^ 54) where
 
   kept : (k : ℕ) → 4 * (m * 4 ^ (26 + k)) / 4 ^ k ≡ m * 2 ^ 54
   kept k =
-      let P : 0 < 4 ^ k = subst (λ (x : ℕ). 0 < x) (sym (four-pow k)) (mul-pos (pow-pos k) (pow-pos k)) in
+      let P : 0 < 4 ^ k = four-pos k in
       ap (λ (x : ℕ). x / 4 ^ k) (four-kept k) ∙ mul-div-cancel (m * 2 ^ 54) P
 
   pub rounded-is : (k : ℕ) → rounded binary64 (m * 4 ^ (26 + k)) ≡ units binary64 false ((root (m * 2 ^ 54) + 1) / 2) k

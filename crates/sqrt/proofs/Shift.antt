@@ -1,6 +1,6 @@
 -- The leading one of a number: how many binary digits the number has, and by how many places it is shifted to have 53. Assumes nothing.
 use mathlib.Core.Path.{_≡_, sym, ap, _∙_, subst}
-use Prim.Native.Nat.{ℕ, suc, _+_, _-_, _*_, _^_, _≤_, _<_}
+use Prim.Native.Nat.{ℕ, suc, _+_, _-_, _*_, _/_, _%_, _^_, _≤_, _<_}
 use native.Mathlib.Nat.{le-antisymm, le-trans, le-of-eq, lt-of-lt-of-le, lt-of-not-le, lt-irrefl, le-of-suc-le-suc, mul-le-mul-right, pow-succ'}
 use native.Mathlib.Omega.{arith}
 use lib.Pow.{pow-add, pow-mono, shl-lt}
@@ -40,3 +40,10 @@ shifted t p h =
       subst (λ (x : ℕ). 2 ^ x ≤ t * 2 ^ s) a (le-trans (le-of-eq (pow-add 2 (z - 1) s)) (mul-le-mul-right (2 ^ s) (size-reaches t (z - 1) (omega arith)))),
       subst (λ (x : ℕ). t * 2 ^ s < 2 ^ x) b (shl-lt z s (size-lt t)),
     )
+
+-- the fraction of a subnormal's pattern, shifted by s
+abbrev pub Shifted : ℕ → ℕ → Type 0
+Shifted bits s = (s ≤ 52) × (2 ^ 52 ≤ bits % 2 ^ 52 * 2 ^ s) × (bits % 2 ^ 52 * 2 ^ s < 2 ^ 53)
+
+pub shifted-fraction : (bits s : ℕ) → 0 < bits → bits / 2 ^ 52 ≡ 0 → s ≡ 53 - size (bits % 2 ^ 52) → Shifted bits s
+shifted-fraction bits s p z e = subst (Shifted bits) (sym e) (shifted (bits % 2 ^ 52) (omega arith) (omega arith))

@@ -1,26 +1,18 @@
 -- `sqrt::positive` meets its contract. A subnormal's fraction is shifted to 53 digits and loses as much of its exponent, any other number has its leading one
 -- added to the fraction, and either way it is the same number of smallest doubles. Assumes nothing.
-use mathlib.Core.Path.{_≡_, sym, ap, _∙_, subst}
-use Prim.Native.Nat.{ℕ, _+_, _-_, _*_, _/_, _%_, _^_, _≤_, _<_}
+use mathlib.Core.Path.{sym, ap, _∙_, subst}
+use Prim.Native.Nat.{ℕ, _+_, _-_, _*_, _/_, _%_, _^_}
 use native.Mathlib.Omega.{arith}
-use lib.Ieee.{size}
 use borrow.Author.Needs.{needs}
 use Rattle.sqrt.specs.Steps.{Rooted}
 use Rattle.sqrt.proofs.Powers.{low-side, high-side}
-use Rattle.sqrt.proofs.Shift.{shifted}
+use Rattle.sqrt.proofs.Shift.{Shifted, shifted-fraction}
 use Rattle.sqrt.proofs.Patterns.{units-low, units-high}
 use Rattle.sqrt.proofs.positive.Statement.{statement}
 use Rattle.sqrt.proofs.positive.Tie as tie
 
--- what is known of the shift s of the fraction of b
-abbrev Shift : ℕ → ℕ → Type 0
-Shift b s = (s ≤ 52) × (2 ^ 52 ≤ b % 2 ^ 52 * 2 ^ s) × (b % 2 ^ 52 * 2 ^ s < 2 ^ 53)
-
-shift-in : (b s : ℕ) → 0 < b → b / 2 ^ 52 ≡ 0 → s ≡ 53 - size (b % 2 ^ 52) → Shift b s
-shift-in b s p z e = subst (Shift b) (sym e) (shifted (b % 2 ^ 52) (omega arith) (omega arith))
-
-shift-at : (c : tie.After-shift-of) → Shift (c .before .before .args .bits) (c .shift-of .result)
-shift-at c = shift-in (c .before .before .args .bits) (c .shift-of .result) (c .before .before .pre .0) (c .before .if1 .taken) (c .shift-of .ensures)
+shift-at : (c : tie.After-shift-of) → Shifted (c .before .before .args .bits) (c .shift-of .result)
+shift-at c = shifted-fraction (c .before .before .args .bits) (c .shift-of .result) (c .before .before .pre .0) (c .before .if1 .taken) (c .shift-of .ensures)
 
 shift-of-requires : tie.Need-shift-of-requires
 shift-of-requires c κs = search needs

@@ -1,0 +1,32 @@
+// The shared estimate.
+use answer::Answer;
+use answer::Solved;
+use answer::Value;
+ghost use mathlib.Core.Path.{_≡_};
+ghost use Rattle.prediction.specs.Bisection.{localOf};
+ghost use Rattle.prediction.specs.Estimate.{estimateOf};
+ghost use Rattle.prediction.specs.Function.{functionOf};
+
+// The value at p of the function whose root p_local is.
+#[no_mangle]
+pub extern "C" fn abutfern_prediction_estimate_function(p: f64, max_run_len: u64, n: u64) -> Value
+    ensures { λ r. ⌜ r ≡ functionOf p «max_run_len» n ⌝ }
+{
+    prediction::function::prediction_estimate_function(p, max_run_len, n)
+}
+
+// p_local over ldomain..1, by bisection.
+#[no_mangle]
+pub extern "C" fn abutfern_calc_p_local(max_run_len: u64, n: u64, ldomain: f64) -> Solved
+    ensures { λ r. ⌜ r ≡ localOf «max_run_len» n ldomain ⌝ }
+{
+    prediction::bisect::calc_p_local(max_run_len, n, ldomain)
+}
+
+// The estimate of C correct of N predictions with a longest run, over an alphabet of k symbols.
+#[no_mangle]
+pub extern "C" fn abutfern_prediction_estimate(c: u64, n: u64, max_run_len: u64, k: u64) -> Answer
+    ensures { λ r. ⌜ r ≡ estimateOf c n «max_run_len» k ⌝ }
+{
+    prediction::estimate::prediction_estimate(c, n, max_run_len, k)
+}

@@ -1,0 +1,10 @@
+pub mod Rounds
+pub mod Cases
+pub mod ReportedValue
+pub mod Doublings
+pub mod Squares
+pub mod Logarithm
+pub mod Bounds
+pub mod PowersOfTwo
+pub mod EntropyRange
+pub mod DemandThree

@@ -1,0 +1,3 @@
+pub mod Entropy
+pub mod MinEntropy
+pub mod DemandThree

@@ -1,0 +1,6 @@
+pub mod EstimateRanges
+pub mod LocalRange
+pub mod Refusals
+pub mod Rounds
+pub mod Settling
+pub mod Whole

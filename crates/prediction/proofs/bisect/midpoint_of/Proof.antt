@@ -1,0 +1,13 @@
+-- `prediction::bisect::midpoint_of` meets its contract. It is the definition's two operations. Assumes nothing.
+use mathlib.Core.Path.{refl}
+use lib.Ieee.{ofBits}
+use Rattle.prediction.specs.Bisection.{midpoint}
+use Rattle.prediction.proofs.bisect.midpoint_of.Statement.{statement}
+use Rattle.prediction.proofs.bisect.midpoint_of.Tie as tie
+
+returns : tie.Need-returns
+unfolding midpoint ofBits
+returns c = refl
+
+pub midpoint-of-spec : {M : Type 1} → statement M
+midpoint-of-spec = tie.close (tie.spec returns)

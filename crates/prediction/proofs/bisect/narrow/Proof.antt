@@ -1,0 +1,21 @@
+-- `prediction::bisect::narrow` meets its contract. p becomes the bound on the side where its value lies. Assumes nothing.
+use mathlib.Core.Path.{ap, sym, _∙_}
+use lib.Ieee.{lt}
+use Rattle.prediction.specs.Bisection.{narrowed}
+use borrow.Author.Needs.{needs}
+use Rattle.prediction.proofs.bisect.narrow.Statement.{statement}
+use Rattle.prediction.proofs.bisect.narrow.Tie as tie
+
+log-alpha-requires : tie.Need-log-alpha-requires
+log-alpha-requires c κs = search needs
+
+returns : tie.Need-returns
+unfolding narrowed
+returns c = simp (sym (c .before .before .log-alpha .ensures), c .if1 .taken)
+
+returns-2 : tie.Need-returns-2
+unfolding narrowed
+returns-2 c = simp (sym (c .before .before .log-alpha .ensures), c .if1 .left)
+
+pub narrow-spec : {M : Type 1} → statement M
+narrow-spec = tie.close (tie.spec log-alpha-requires returns returns-2)

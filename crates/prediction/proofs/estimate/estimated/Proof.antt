@@ -1,0 +1,39 @@
+-- `prediction::estimate::estimated` meets its contract. Each field is what its function ensures. Assumes nothing.
+use Rattle.prediction.specs.Estimate.{largest, estimate, estimatedOf}
+use borrow.Author.Needs.{needs}
+use Rattle.prediction.proofs.estimate.estimated.Statement.{statement}
+use Rattle.prediction.proofs.estimate.estimated.Tie as tie
+
+p-global-requires : tie.Need-p-global-requires
+p-global-requires c κs = search needs
+
+p-global-prime-requires : tie.Need-p-global-prime-requires
+p-global-prime-requires c κs = search needs
+
+floor-of-requires : tie.Need-floor-of-requires
+floor-of-requires c κs = search needs
+
+p-local-requires : tie.Need-p-local-requires
+p-local-requires c κs = search needs
+
+larger-of-requires : tie.Need-larger-of-requires
+larger-of-requires c κs = search needs
+
+min-entropy-requires : tie.Need-min-entropy-requires
+min-entropy-requires c κs = search needs
+
+returns : tie.Need-returns
+unfolding estimatedOf estimate largest
+returns c = cc (c .before .before .before .before .before .p-global .ensures, c .before .before .before .before .p-global-prime .ensures, c .before .before .before .floor-of .ensures, c .before .before .p-local .ensures .0, c .before .before .p-local .ensures .1, c .before .larger-of .ensures, c .min-entropy .ensures)
+
+pub estimated-spec : {M : Type 1} → statement M
+estimated-spec =
+    tie.close
+    (tie.spec
+    p-global-requires
+    p-global-prime-requires
+    floor-of-requires
+    p-local-requires
+    larger-of-requires
+    min-entropy-requires
+    returns)

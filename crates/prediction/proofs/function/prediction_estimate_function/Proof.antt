@@ -1,0 +1,47 @@
+-- `prediction::function::prediction_estimate_function` meets its contract. Number 4 comes before 5. Assumes nothing.
+use mathlib.Core.Path.{ap, sym, _∙_}
+use Rattle.prediction.specs.Function.{functionOf}
+use Rattle.prediction.proofs.Refusals.{run-can-be}
+use borrow.Author.Needs.{needs}
+use Rattle.prediction.proofs.function.prediction_estimate_function.Statement.{statement}
+use Rattle.prediction.proofs.function.prediction_estimate_function.Tie as tie
+
+impossible-run-requires : tie.Need-impossible-run-requires
+impossible-run-requires c κs = search needs
+
+refused-value-requires : tie.Need-refused-value-requires
+refused-value-requires c κs = search needs
+
+returns : tie.Need-returns
+unfolding functionOf
+returns c = simp (sym (c .before .before .impossible-run .ensures) ∙ c .before .if1 .taken) (c .refused-value .ensures)
+
+is-outside-requires : tie.Need-is-outside-requires
+is-outside-requires c κs = search needs
+
+refused-value-requires-2 : tie.Need-refused-value-requires-2
+refused-value-requires-2 c κs = search needs
+
+returns-2 : tie.Need-returns-2
+unfolding functionOf
+returns-2 c = simp (sym (c .before .before .before .before .impossible-run .ensures) ∙ c .before .before .before .if1 .left, sym (c .before .before .is-outside .ensures) ∙ c .before .if2 .taken) (c .refused-value2 .ensures)
+
+value-at-requires : tie.Need-value-at-requires
+value-at-requires c κs = run-can-be _ _ (sym (c .before .before .before .impossible-run .ensures) ∙ c .before .before .if1 .left)
+
+returns-3 : tie.Need-returns-3
+unfolding functionOf
+returns-3 c = simp (sym (c .before .before .before .before .impossible-run .ensures) ∙ c .before .before .before .if1 .left, sym (c .before .before .is-outside .ensures) ∙ c .before .if2 .left) (rw (c .value-at .ensures))
+
+pub prediction-estimate-function-spec : {M : Type 1} → statement M
+prediction-estimate-function-spec =
+    tie.close
+    (tie.spec
+    impossible-run-requires
+    refused-value-requires
+    returns
+    is-outside-requires
+    refused-value-requires-2
+    returns-2
+    value-at-requires
+    returns-3)

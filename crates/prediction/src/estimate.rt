@@ -1,0 +1,118 @@
+// The estimate from the counts (Rust: prediction_estimate).
+use crate::at_most_one;
+use crate::bisect::log_alpha;
+use crate::bisect::solve;
+use crate::function::value_at;
+use crate::larger_of;
+use answer::Answer;
+use answer::DONE;
+use answer::Estimate;
+use answer::IMPOSSIBLE;
+use answer::Solved;
+ghost use mathlib.Core.Path.{_≡_};
+ghost use Prim.Native.Nat.{_≤_, _<_};
+ghost use Rattle.prediction.specs.Counts.{countLimit};
+ghost use Rattle.prediction.specs.Estimate.{canRaise, estimateOf, estimatedOf, floorFrom, pGlobal, pLocal, primeOf, roundsFor, upperBound};
+
+// The 0.995 quantile of the normal distribution.
+const Z_995: f64 = 2.575_829_303_548_901;
+
+// C / N, and 0 for N = 0.
+fn p_global(c: u64, n: u64) -> f64
+    requires { ⌜ (c ≤ n) × (n ≤ countLimit) ⌝ }
+    ensures { λ r. ⌜ r ≡ pGlobal c n ⌝ }
+{
+    if n == 0 {
+        return 0.0;
+    }
+    (c as f64) / (n as f64)
+}
+
+// The upper end of the 99 % confidence interval of p, at most 1.
+fn upper_bound(p: f64, n: u64) -> f64
+    requires { ⌜ n ≤ countLimit ⌝ }
+    ensures { λ r. ⌜ r ≡ upperBound p n ⌝ }
+{
+    let spread = sqrt::sqrt(p * (1.0 - p) / (n as f64 - 1.0));
+    at_most_one(p + Z_995 * spread)
+}
+
+// p_global' from p_global.
+fn p_global_prime(p: f64, n: u64) -> f64
+    requires { ⌜ n ≤ countLimit ⌝ }
+    ensures { λ r. ⌜ r ≡ primeOf p n ⌝ }
+{
+    if p > 0.0 {
+        return upper_bound(p, n);
+    }
+    zero_count::zero_count_bound(n)
+}
+
+// The larger of 1/k and p_global'.
+fn floor_of(prime: f64, k: u64) -> f64
+    requires { ⌜ k ≤ 256 ⌝ }
+    ensures { λ r. ⌜ r ≡ floorFrom prime k ⌝ }
+{
+    larger_of(1.0 / (k as f64), prime)
+}
+
+// Whether p_local can raise the estimate.
+fn can_raise(floor: f64, max_run_len: u64, n: u64) -> bool
+    requires { ⌜ («max_run_len» ≤ n) × (n ≤ countLimit) ⌝ }
+    ensures { λ r. ⌜ r ≡ canRaise floor «max_run_len» n ⌝ }
+{
+    if floor < 1.0 {
+        return value_at(floor, max_run_len, n) > log_alpha();
+    }
+    false
+}
+
+// p_local with its rounds; -1.0 and 0 where it is not solved.
+fn p_local(floor: f64, max_run_len: u64, n: u64) -> Solved
+    requires { ⌜ («max_run_len» ≤ n) × (n ≤ countLimit) ⌝ }
+    ensures { λ r. ⌜ (r .rounds ≡ roundsFor floor «max_run_len» n) × (r .value ≡ pLocal floor «max_run_len» n) ⌝ }
+{
+    if can_raise(floor, max_run_len, n) {
+        return solve(max_run_len, n, floor);
+    }
+    answer::refused_solved(DONE)
+}
+
+// The estimate, whose counts can be.
+fn estimated(c: u64, n: u64, max_run_len: u64, k: u64) -> Answer
+    requires { ⌜ (c ≤ n) × («max_run_len» ≤ n) × (n ≤ countLimit) × (k ≤ 256) ⌝ }
+    ensures { λ r. ⌜ r ≡ estimatedOf c n «max_run_len» k ⌝ }
+{
+    let p_global = p_global(c, n);
+    let p_global_prime = p_global_prime(p_global, n);
+    let floor = floor_of(p_global_prime, k);
+    let solved = p_local(floor, max_run_len, n);
+    let p_local = solved.value;
+    let figure = entropy::min_entropy(larger_of(floor, p_local));
+    let estimate = Estimate {
+        c,
+        n,
+        max_run_len,
+        p_global,
+        p_global_prime,
+        p_local,
+        min_entropy: figure.value,
+    };
+    Answer {
+        number: DONE,
+        place: 0,
+        k,
+        rounds: solved.rounds,
+        estimate,
+    }
+}
+
+// prediction_estimate: the estimate of C correct of N predictions with a longest run, over an alphabet of k symbols.
+pub fn prediction_estimate(c: u64, n: u64, max_run_len: u64, k: u64) -> Answer
+    ensures { λ r. ⌜ r ≡ estimateOf c n «max_run_len» k ⌝ }
+{
+    if crate::impossible_counts(c, n, max_run_len, k) {
+        return answer::refused_as(IMPOSSIBLE);
+    }
+    estimated(c, n, max_run_len, k)
+}
