@@ -3,6 +3,7 @@ use answer::Answer;
 use answer::Solved;
 use answer::Value;
 ghost use mathlib.Core.Path.{_≡_};
+ghost use Rattle.board.specs.Board.{figureOf};
 ghost use Rattle.prediction.specs.Bisection.{localOf};
 ghost use Rattle.prediction.specs.Estimate.{estimateOf};
 ghost use Rattle.prediction.specs.Function.{functionOf};
@@ -29,4 +30,24 @@ pub extern "C" fn abutfern_prediction_estimate(c: u64, n: u64, max_run_len: u64,
     ensures { λ r. ⌜ r ≡ estimateOf c n «max_run_len» k ⌝ }
 {
     prediction::estimate::prediction_estimate(c, n, max_run_len, k)
+}
+
+// The board figure of the four answers.
+#[no_mangle]
+pub extern "C" fn abutfern_board_figure(
+    mcw_bits: Answer,
+    mcw_literal: Answer,
+    mmc_bits: Answer,
+    mmc_literal: Answer,
+    bits_per_symbol: u8,
+) -> Figure
+    ensures { λ r. ⌜ r ≡ figureOf «mcw_bits» «mcw_literal» «mmc_bits» «mmc_literal» «bits_per_symbol» ⌝ }
+{
+    board::board_figure(
+        mcw_bits,
+        mcw_literal,
+        mmc_bits,
+        mmc_literal,
+        bits_per_symbol,
+    )
 }
