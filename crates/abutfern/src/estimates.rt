@@ -1,7 +1,8 @@
-// The shared estimate.
+// The shared estimate and the board figure.
 use answer::Answer;
 use answer::Solved;
 use answer::Value;
+use board::Figure;
 ghost use mathlib.Core.Path.{_≡_};
 ghost use Rattle.board.specs.Board.{figureOf};
 ghost use Rattle.prediction.specs.Bisection.{localOf};

@@ -41,9 +41,9 @@ module _ (t : Tally) (g x h r l : ℕ) (best : l ≡ max (t .longest) r) where
 pub record Round (gs ss₀ : List ℕ) (w x : ℕ) (ss : List ℕ) (best bar j : ℕ) : Type 0 where
   pub some : j ≤ length gs
   pub is : after best ss ≡ scored (heardFrom gs) x (after w ss₀) j
-  pub bar-is : bar ≡ getD ss best 0 + 1
+  pub bar-is : bar ≡ max (getD ss best 0) 1
 
-pub round-none : (gs ss₀ : List ℕ) (w x bar : ℕ) → bar ≡ getD ss₀ w 0 + 1 → Round gs ss₀ w x ss₀ w bar 0
+pub round-none : (gs ss₀ : List ℕ) (w x bar : ℕ) → bar ≡ max (getD ss₀ w 0) 1 → Round gs ss₀ w x ss₀ w bar 0
 unfolding scored
 round-none gs ss₀ w x bar e = record { some = omega arith; is = refl; bar-is = e }
 
@@ -90,20 +90,20 @@ module _ {gs ss₀ : List ℕ} {w x : ℕ} (A : Scorable ss₀ gs w x) {ss : Lis
     theirs n = getD-set-other ss j best (getD ss j 0 + 1) 0 n
 
     -- it reaches the bar
-    reached : bar ≤ p + 1 → getD (set ss j (getD ss j 0 + 1)) best 0 ≤ getD (set ss j (getD ss j 0 + 1)) j 0
+    reached : bar ≤ p → getD (set ss j (getD ss j 0 + 1)) best 0 ≤ getD (set ss j (getD ss j 0 + 1)) j 0
     reached l = same? best j (λ e. rw e (omega arith)) (λ n. omega (arith, mine, theirs n, Q .bar-is))
 
-    pub round-wins : bar ≤ p + 1 → (best′ bar′ : ℕ) → best′ ≡ j → bar′ ≡ p + 1 → Round gs ss₀ w x (set ss j p) best′ bar′ (j + 1)
+    pub round-wins : bar ≤ p → (best′ bar′ : ℕ) → best′ ≡ j → bar′ ≡ p → Round gs ss₀ w x (set ss j p) best′ bar′ (j + 1)
     round-wins l best′ bar′ eb er =
-        rw (eb, er, pe) (record { some = omega arith; is = rw (gains, le-leb _ _ (reached l)); bar-is = ap (λ (n : ℕ). n + 1) (sym mine) })
+        rw (eb, er, pe) (record { some = omega arith; is = rw (gains, le-leb _ _ (reached l)); bar-is = omega (arith, mine) })
 
     -- or it does not
-    apart : p + 1 < bar → best ≡ j → ⊥
+    apart : p < bar → best ≡ j → ⊥
     apart l e = let f : getD ss best 0 ≡ getD ss j 0 = ap (λ (n : ℕ). getD ss n 0) e in omega (arith, Q .bar-is)
 
-    missed : p + 1 < bar → getD (set ss j (getD ss j 0 + 1)) j 0 < getD (set ss j (getD ss j 0 + 1)) best 0
+    missed : p < bar → getD (set ss j (getD ss j 0 + 1)) j 0 < getD (set ss j (getD ss j 0 + 1)) best 0
     missed l = omega (arith, mine, theirs (apart l), Q .bar-is)
 
-    pub round-waits : p + 1 < bar → (best′ bar′ : ℕ) → best′ ≡ best → bar′ ≡ bar → Round gs ss₀ w x (set ss j p) best′ bar′ (j + 1)
+    pub round-waits : p < bar → (best′ bar′ : ℕ) → best′ ≡ best → bar′ ≡ bar → Round gs ss₀ w x (set ss j p) best′ bar′ (j + 1)
     round-waits l best′ bar′ eb er =
-        rw (eb, er, pe) (record { some = omega arith; is = rw (gains, lt-leb _ _ (missed l)); bar-is = Q .bar-is ∙ ap (λ (n : ℕ). n + 1) (sym (theirs (apart l))) })
+        rw (eb, er, pe) (record { some = omega arith; is = rw (gains, lt-leb _ _ (missed l)); bar-is = omega (arith, Q .bar-is, theirs (apart l)) })

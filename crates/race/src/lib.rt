@@ -1,8 +1,9 @@
 // Sub-predictors compete: the winner, the scores, the hits and the longest run. MultiMCW runs it with four windows, MultiMMC with sixteen levels.
 ghost use mathlib.Core.Path.{_≡_};
+ghost use Prim.Native.Nat.{max};
 ghost use lib.ListN.{length};
 ghost use Rattle.race.specs.Race.{judge, scored};
-ghost use Rattle.race.specs.Held.{after, Countable, heard, heardFrom, Scorable, tallied};
+ghost use Rattle.race.specs.Held.{Countable, Leadable, Led, Scorable, after, heard, heardFrom, tallied};
 
 // The guess of a sub-predictor that does not take part.
 pub const SILENT: u16 = 256;
@@ -34,28 +35,50 @@ pub fn count(t: Tally, guess: u16, x: u16) -> Tally
     Tally { hits, run, longest }
 }
 
-// The points of one place, where x comes: each right guess gains one, and wins if its score is then at least the winner's. Returns the winner.
-pub fn score(scores: &mut [u64], guesses: &[u16], winner: usize, x: u16) -> usize
-    requires { ⌜ Scorable (now scores) (now guesses) winner x ⌝ }
-    ensures { λ r. ⌜ after r (now (scores .exit)) ≡ scored (heardFrom (now (guesses .entry))) x (after winner (now (scores .entry))) (length (now (guesses .entry))) ⌝ }
+// Who wins, and what a right guess has to reach: the winner's score, and 1 at least.
+pub struct Leader {
+    pub winner: usize,
+    pub bar: u64,
+}
+
+// The points of one place, where x comes: each right guess gains one, and wins if its score is then at least the winner's.
+pub fn lead(scores: &mut [u64], guesses: &[u16], leader: Leader, x: u16) -> Leader
+    requires { ⌜ Leadable (now scores) (now guesses) leader x ⌝ }
+    ensures { λ r. ⌜ Led (scored (heardFrom (now (guesses .entry))) x (after (leader .winner) (now (scores .entry))) (length (now (guesses .entry)))) r (now (scores .exit)) ⌝ }
 {
-    let mut best = winner;
-    // A right guess claims one more than its score, any other 0: it wins if that reaches one more than the winner's score.
-    let mut bar = scores[winner] + 1;
+    let mut winner = leader.winner;
+    let mut bar = leader.bar;
     let mut j: usize = 0;
     while j < guesses.len() {
+        // A right guess claims its new score, any other 0, which never reaches the bar.
         let mut points = scores[j];
         let mut claim: u64 = 0;
         if guesses[j] == x {
             points += 1;
-            claim = points + 1;
+            claim = points;
         }
         scores[j] = points;
         if bar <= claim {
-            best = j;
+            winner = j;
             bar = claim;
         }
         j += 1;
     }
-    best
+    Leader { winner, bar }
+}
+
+fn at_least_one(x: u64) -> u64
+    ensures { λ r. ⌜ r ≡ max x 1 ⌝ }
+{
+    if x < 1 { 1 } else { x }
+}
+
+// The same where only the winner is kept. Returns the winner.
+pub fn score(scores: &mut [u64], guesses: &[u16], winner: usize, x: u16) -> usize
+    requires { ⌜ Scorable (now scores) (now guesses) winner x ⌝ }
+    ensures { λ r. ⌜ after r (now (scores .exit)) ≡ scored (heardFrom (now (guesses .entry))) x (after winner (now (scores .entry))) (length (now (guesses .entry))) ⌝ }
+{
+    let bar = at_least_one(scores[winner]);
+    let r = lead(scores, guesses, Leader { winner, bar }, x);
+    r.winner
 }

@@ -1,0 +1,14 @@
+pub mod Cases
+pub mod Counting
+pub mod Room
+pub mod Tables
+pub mod Parts
+pub mod Guessing
+pub mod Contexts
+pub mod Stepping
+pub mod Placing
+pub mod Running
+pub mod Counts
+pub mod Narrow
+pub mod Acting
+pub mod Examples

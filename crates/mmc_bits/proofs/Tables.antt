@@ -1,0 +1,59 @@
+-- The first n values of a function, as a list. Assumes nothing.
+use Prim.Native.Nat.{ℕ, zero, suc, _+_, _≤_, _<_}
+use mathlib.Core.Path.{_≡_, refl, sym, ap, _∙_}
+use mathlib.Core.List.{List, [], _∷_, _++_, append-assoc, append-nil}
+use native.Mathlib.Omega.{arith}
+use native.Mathlib.Nat.{zero-add, suc-add}
+use lib.ListN.{getD, set, length, drop, replicate, length-append, length-set, length-drop}
+use lib.Seq.{ext-getD, getD-set-same, getD-set-other, set-at, append-snoc, drop-cons}
+use lib.Dec.{eqb}
+use borrow.Author.Tests.{eqb-true, eqb-false}
+use Rattle.capture.specs.Bits.{table}
+use Rattle.capture.proofs.Bitstring.{table-length, table-at}
+use Rattle.mmc_bits.proofs.Cases.{tested}
+
+pub table-same : (n : ℕ) (f g : ℕ → ℕ) → ((k : ℕ) → f k ≡ g k) → table n f ≡ table n g
+unfolding table
+table-same zero f g e = refl
+table-same (suc n) f g e = rw (table-same n f g e, e n) refl
+
+-- a store of one value more
+pub table-set : (n : ℕ) (f g : ℕ → ℕ) (k v : ℕ) → v ≡ g k → ((j : ℕ) → (k ≡ j → ⊥) → g j ≡ f j) → set (table n f) k v ≡ table n g
+table-set n f g k v e o = ext-getD 0 (set (table n f) k v) (table n g)
+    (length-set (table n f) k v ∙ table-length n f ∙ sym (table-length n g))
+    (λ j l. let lt : j < n = omega (arith, length-set (table n f) k v, table-length n f) in
+    tested (eqb k j)
+    (λ t. let q : k ≡ j = eqb-true _ _ t in
+    rw (sym q) (getD-set-same (table n f) k v 0 (omega (arith, table-length n f)) ∙ e ∙ sym (table-at n g k (omega arith))))
+    (λ t. let q : k ≡ j → ⊥ = eqb-false _ _ t in
+    getD-set-other (table n f) k j v 0 (λ z. q (sym z)) ∙ table-at n f j lt ∙ sym (o j q) ∙ sym (table-at n g j lt)))
+
+pub table-add : (m n : ℕ) → table m (λ _. 0) ++ table n (λ _. 0) ≡ table (n + m) (λ _. 0)
+unfolding table
+table-add m zero = rw (zero-add m) (append-nil (table m (λ _. 0)))
+table-add m (suc n) = sym (append-assoc (table m (λ _. 0)) (table n (λ _. 0)) (0 ∷ [])) ∙ rw (suc-add n m, table-add m n) refl
+
+replicate-more : (m v : ℕ) → replicate {A = ℕ} (suc m) v ≡ replicate m v ++ (v ∷ [])
+replicate-more zero v = refl
+replicate-more (suc m) v = ap (λ (t : List ℕ). v ∷ t) (replicate-more m v)
+
+-- where all further values are the same
+pub table-rest : (m i v : ℕ) (f : ℕ → ℕ) → ((n : ℕ) → i ≤ n → f n ≡ v) → table i f ++ replicate m v ≡ table (m + i) f
+unfolding table
+table-rest zero i v f e = rw (zero-add i) (append-nil (table i f))
+table-rest (suc m) i v f e =
+    ap (λ (t : List ℕ). table i f ++ t) (replicate-more m v) ∙ sym (append-assoc (table i f) (replicate m v) (v ∷ []))
+    ∙ rw (suc-add m i, table-rest m i v f e, e (m + i) (omega arith)) refl
+
+-- a list that is written from the left
+pub table-none : (f : ℕ → ℕ) (d : List ℕ) → d ≡ table 0 f ++ drop 0 d
+unfolding table
+table-none f d = refl
+
+pub table-fill : (n : ℕ) (f : ℕ → ℕ) (d : List ℕ) → n < length d → set (table n f ++ drop n d) n (f n) ≡ table (suc n) f ++ drop (suc n) d
+unfolding table
+table-fill n f d h =
+    rw (drop-cons d n 0 h) (set-at (table n f) (getD d n 0) (drop (suc n) d) (f n) n (table-length n f) ∙ sym (append-snoc (table n f) (f n) (drop (suc n) d)))
+
+pub length-fill : (n : ℕ) (f : ℕ → ℕ) (d : List ℕ) → n ≤ length d → length (table n f ++ drop n d) ≡ length d
+length-fill n f d h = length-append (table n f) (drop n d) ∙ omega (arith, table-length n f, length-drop n d)

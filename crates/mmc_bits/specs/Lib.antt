@@ -1,0 +1,6 @@
+pub mod Levels
+pub mod Counters
+pub mod Guesses
+pub mod Space
+pub mod Mmc
+pub mod Steps
