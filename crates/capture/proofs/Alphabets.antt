@@ -11,13 +11,18 @@ use borrow.Author.Tests.{eq-eqb, ne-eqb, eqb-true}
 use lib.Dec.{eqb}
 use lib.ListN.{length, getD, take}
 use lib.Seq.{take-suc, take-length}
-use Rattle.capture.specs.Alphabet.{has, one, distinct, distinctBelow, upTo, firstSight, rising}
-use Rattle.capture.proofs.Membership.{none-in-nil, same-cut, snoc-same, up-to-in, up-to-not}
+use Rattle.capture.specs.Alphabet.{has, one, distinct, distinctBelow, upTo, firstSight, rising, dense, sorted}
+use Rattle.capture.proofs.Membership.{has-at, none-in-nil, same-cut, snoc-same, up-to-in, up-to-not}
 use Rattle.capture.proofs.Distinct.{distinct-lt, distinct-more, distinct-same, distinct-nil}
 
 -- every symbol is a byte
 abbrev pub Bytes : List ℕ → Type 0
 Bytes s = (i : ℕ) → i < length s → getD s i 0 < 256
+
+map-below : (f : ℕ → ℕ) (k : ℕ) (s : List ℕ) (i : ℕ) → i < length s → f (getD s i 0) < k → getD (map f s) i 0 < k
+map-below f k [] i l h = omega arith
+map-below f k (x ∷ s) zero l h = h
+map-below f k (x ∷ s) (suc i) l h = map-below f k s i (le-of-suc-le-suc l) h
 
 -- the number of a value that stands in s is below the size
 pub sight-below : (s : List ℕ) (x : ℕ) → has x s ≡ true → x < 256 → firstSight s x < distinct s
@@ -147,3 +152,10 @@ module _ (s : List ℕ) (x : ℕ) (byte : x < 256) (same : (i : ℕ) → i < len
   constant-one l =
       let p : suc (pred (length s)) ≡ length s = omega arith in
       rw (p, take-length s) at (one-value (pred (length s)) (omega arith))
+
+-- every translated symbol is below the size
+pub sorted-below : (s : List ℕ) → Bytes s → (i : ℕ) → i < length s → getD (sorted s) i 0 < distinct s
+sorted-below s b i l = map-below (rising s) (distinct s) s i l (rising-below s (getD s i 0) (has-at s i l) (b i l))
+
+pub dense-below : (s : List ℕ) → Bytes s → (i : ℕ) → i < length s → getD (dense s) i 0 < distinct s
+dense-below s b i l = map-below (firstSight s) (distinct s) s i l (sight-below s (getD s i 0) (has-at s i l) (b i l))

@@ -7,7 +7,7 @@ use native.Mathlib.Nat.{eq-or-lt-of-le, le-of-suc-le-suc, div-one, mod-one, mod-
 use native.Mathlib.Numerals.{add-one}
 use native.Mathlib.Omega.{arith}
 use lib.ListN.{length, getD, length-append, List·getD-append}
-use lib.Seq.{getD-at}
+use lib.Seq.{ext-getD, getD-at}
 use Rattle.capture.specs.Bits.{bitAt, bitsOf, table}
 
 pub table-length : (n : ℕ) (f : ℕ → ℕ) → length (table n f) ≡ n
@@ -44,3 +44,11 @@ module _ (symbols : List ℕ) (width : ℕ) where
 pub bit-narrow : (symbols : List ℕ) (i : ℕ) → getD symbols i 0 ≤ 1 → bitAt symbols 1 i ≡ getD symbols i 0
 unfolding bitAt
 bit-narrow symbols i h = rw (div-one i, mod-one i, div-one (getD symbols i 0)) (mod-eq-of-lt (omega arith))
+
+-- a list of bits is its own bitstring at width 1
+pub bits-narrow : (s : List ℕ) → ((i : ℕ) → i < length s → getD s i 0 ≤ 1) → bitsOf s 1 (length s) ≡ s
+bits-narrow s h =
+    ext-getD 0 (bitsOf s 1 (length s)) s (bits-length s 1 (length s))
+    (λ i l.
+    let k : i < length s = rw (bits-length s 1 (length s)) at l in
+    bits-at s 1 (length s) i k ∙ bit-narrow s i (h i k))

@@ -1,14 +1,14 @@
 -- The first symbol above 1, found from the left. Assumes nothing.
-use mathlib.Core.Path.{_≡_, refl, ap}
-use mathlib.Core.Bool.{true, false, cond}
+use mathlib.Core.Path.{_≡_, refl, ap, sym}
+use mathlib.Core.Bool.{Bool, true, false, cond, _&&_}
 use mathlib.Core.List.{List, [], _∷_}
 use Prim.Native.Nat.{ℕ, zero, suc, _+_, _≤_, _<_}
 use native.Mathlib.Omega.{arith}
 use native.Mathlib.Nat.{zero-lt-suc, le-of-suc-le-suc}
-use borrow.Author.Tests.{le-leb, lt-leb}
-use lib.Dec.{leb}
+use borrow.Author.Tests.{le-leb, lt-leb, le-ltb}
+use lib.Dec.{eqb, leb, ltb}
 use lib.ListN.{length, getD}
-use Rattle.capture.specs.Bits.{firstWide}
+use Rattle.capture.specs.Bits.{firstWide, tooWideAt, wide}
 
 -- no symbol before place i is above 1
 abbrev pub Narrow : List ℕ → ℕ → Type 0
@@ -30,3 +30,18 @@ wide-none (x ∷ s) zero h g n = omega arith
 wide-none (x ∷ s) (suc i) h g n =
     rw (le-leb x 1 (n 0 (zero-lt-suc i)))
     (ap suc (wide-none s i (le-of-suc-le-suc h) (le-of-suc-le-suc g) (λ j l. n (suc j) (omega arith))))
+
+-- number 3 by the place that the code finds
+pub wide-is : (s : List ℕ) (v : ℕ) → wide s v ≡ ltb (tooWideAt s v) (length s)
+wide-is s v = by-width (eqb v 1)
+  where
+    by-width : (b : Bool) → (b && ltb (firstWide s) (length s)) ≡ ltb (cond b (firstWide s) (length s)) (length s)
+    by-width true = refl
+    by-width false = sym (le-ltb (length s) (length s) (omega arith))
+
+pub wide-place : (s : List ℕ) (v : ℕ) → tooWideAt s v < length s → tooWideAt s v ≡ firstWide s
+wide-place s v = by-width (eqb v 1)
+  where
+    by-width : (b : Bool) → cond b (firstWide s) (length s) < length s → cond b (firstWide s) (length s) ≡ firstWide s
+    by-width true h = refl
+    by-width false h = omega arith

@@ -11,7 +11,7 @@ ghost use mathlib.Core.Bool.{_&&_};
 ghost use lib.Dec.{eqb, ltb};
 ghost use lib.ListN.{getD, length};
 ghost use Rattle.capture.specs.Limit.{symbolLimit, widthOf};
-ghost use Rattle.capture.specs.Bits.{bitAt, firstWide};
+ghost use Rattle.capture.specs.Bits.{bitAt, firstWide, tooWideAt};
 ghost use Rattle.capture.specs.Spots.{nextSpot, spotBit, spotOf};
 ghost use Rattle.capture.specs.Reader.{bitRead, refusedBit};
 
@@ -82,6 +82,17 @@ pub fn first_wide(symbols: &[u8]) -> usize
         i += 1;
     }
     i
+}
+
+// Where the first symbol stands that is above what the width takes; the length where there is none.
+pub fn too_wide_at(symbols: &[u8], width: u32) -> usize
+    ensures { λ r. ⌜ r ≡ tooWideAt (now (symbols .entry)) width ⌝ }
+{
+    if width == 1 {
+        first_wide(symbols)
+    } else {
+        symbols.len()
+    }
 }
 
 fn refused_bit(number: u64, place: u64) -> BitRead

@@ -89,6 +89,15 @@ fn number_rising(marks: &mut [u16; 256]) -> u64
     next as u64
 }
 
+// How many distinct values a capture has.
+pub fn alphabet_size(symbols: &[u8]) -> u64
+    ensures { λ r. ⌜ r ≡ distinct (now (symbols .entry)) ⌝ }
+{
+    let mut marks = [0u16; 256];
+    mark(symbols, &mut marks);
+    number_rising(&mut marks)
+}
+
 // Translates each symbol by its number.
 fn renumber(symbols: &[u8], numbers: &[u16; 256], out: &mut [u8])
     requires { ⌜ (length (now symbols) ≤ length (now out)) × Holds (rising (now symbols)) (now numbers) ⌝ }
