@@ -9,7 +9,7 @@ use lib.ListN.{getD, length, drop, replicate, List·getD-eq-default}
 use lib.Dec.{ltb}
 use borrow.Author.Tests.{ltb-true, ltb-false}
 use Rattle.capture.specs.Limit.{symbolLimit}
-use Rattle.capture.specs.Bits.{bitsOf, table}
+use Rattle.capture.specs.Bits.{Source, bitsOf, table}
 use Rattle.capture.specs.Spots.{spotOf, nextSpot, spotBit}
 use Rattle.capture.specs.declared.Spot.{Spot}
 use Rattle.capture.proofs.Clamping.{width-same, bits-small}
@@ -22,7 +22,7 @@ use Rattle.mmc_bits.specs.Levels.{levels, cap, firstPlace}
 use Rattle.mmc_bits.specs.Counters.{context, distinct}
 use Rattle.mmc_bits.specs.Guesses.{guess}
 use Rattle.mmc_bits.specs.Space.{span, size, final}
-use Rattle.mmc_bits.specs.Mmc.{truth, tallyOf, Source}
+use Rattle.mmc_bits.specs.Mmc.{truth, tallyOf}
 use Rattle.mmc_bits.specs.Steps.{Bits, Before, After}
 use Rattle.mmc_bits.proofs.Cases.{tested}
 use Rattle.capture.proofs.Bitstring.{bits-length, bits-at, bit-small}

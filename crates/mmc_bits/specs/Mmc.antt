@@ -1,8 +1,7 @@
 -- MultiMMC on bits: the race of its levels. Definitions only.
-use Prim.Native.Nat.{ℕ, _-_, _*_, _<_, _≤_}
+use Prim.Native.Nat.{ℕ, _-_}
 use mathlib.Core.List.{List}
 use lib.ListN.{getD, length}
-use Rattle.capture.specs.Limit.{symbolLimit}
 use Rattle.race.specs.Race.{Event, events, hits, longest}
 use Rattle.race.specs.declared.Tally.{Tally}
 use Rattle.race.proofs.Trace.{runAfter}
@@ -31,10 +30,3 @@ longestOf n cap b = longest (raceOf n cap b)
 -- what is counted over all of them: C, the hits since the last miss, and the longest run
 abbrev pub tallyOf : ℕ → ℕ → List ℕ → Tally
 tallyOf n cap b = record { hits = correctOf n cap b; run = runAfter 0 (raceOf n cap b); longest = longestOf n cap b }
-
--- a bit source of n bits, `width` to a symbol
-pub record Source (symbols : List ℕ) (width n : ℕ) : Type 0 where
-  pub short : length symbols ≤ symbolLimit
-  pub some : 0 < width
-  pub narrow : width ≤ 8
-  pub within : n ≤ length symbols * width

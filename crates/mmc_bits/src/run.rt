@@ -11,10 +11,10 @@ ghost use mathlib.Core.Path.{_≡_};
 ghost use mathlib.Core.List.{_++_};
 ghost use lib.ListN.{length, drop};
 ghost use Prim.Native.Nat.{_≤_};
-ghost use Rattle.capture.specs.Bits.{bitsOf, table};
+ghost use Rattle.capture.specs.Bits.{Source, bitsOf, table};
 ghost use Rattle.mmc_bits.specs.Levels.{levels, cap};
 ghost use Rattle.mmc_bits.specs.Space.{size, final};
-ghost use Rattle.mmc_bits.specs.Mmc.{Source, tallyOf};
+ghost use Rattle.mmc_bits.specs.Mmc.{tallyOf};
 
 // No counts yet.
 fn clear(counters: &mut [u32])

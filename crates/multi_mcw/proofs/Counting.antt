@@ -1,0 +1,97 @@
+-- How often a symbol stands among the first samples, and where it stands last. Assumes nothing.
+use mathlib.Core.Path.{_≡_, refl, sym, ap, _∙_, subst}
+use mathlib.Core.Bool.{Bool, true, false, cond}
+use mathlib.Core.List.{List, [], _∷_, _++_}
+use Prim.Native.Nat.{ℕ, zero, suc, _+_, _-_, _≤_, _<_}
+use native.Mathlib.Nat.{zero-add}
+use native.Mathlib.Numerals.{add-one}
+use native.Mathlib.Omega.{arith}
+use lib.Dec.{eqb}
+use lib.ListN.{length, getD, take, drop, length-take}
+use lib.Seq.{take-suc, take-add}
+use borrow.Author.Tests.{eq-eqb, ne-eqb, eqb-true, eqb-false}
+use Rattle.race.proofs.Cases.{tested, same?}
+use Rattle.multi_mcw.specs.Commonest.{one, occurrences}
+use Rattle.multi_mcw.specs.Keys.{last, before}
+
+pub occ-append : (x : ℕ) (a b : List ℕ) → occurrences x (a ++ b) ≡ occurrences x a + occurrences x b
+unfolding occurrences
+occ-append x [] b = sym (zero-add (occurrences x b))
+occ-append x (y ∷ a) b = omega (arith, occ-append x a b)
+
+one-le : (b : Bool) → one b ≤ 1
+one-le true = omega arith
+one-le false = omega arith
+
+occ-le : (x : ℕ) (a : List ℕ) → occurrences x a ≤ length a
+unfolding occurrences
+occ-le x [] = omega arith
+occ-le x (y ∷ a) = omega (arith, one-le (eqb x y), occ-le x a)
+
+before-suc : (s : List ℕ) (x i : ℕ) → i < length s → before s x (suc i) ≡ before s x i + one (eqb x (getD s i 0))
+unfolding occurrences
+before-suc s x i h = rw (take-suc s i 0, occ-append) (ap (λ (n : ℕ). before s x i + n) (omega arith))
+
+pub before-same : (s : List ℕ) (x i : ℕ) → i < length s → getD s i 0 ≡ x → before s x (i + 1) ≡ before s x i + 1
+before-same s x i h e = rw (add-one i, before-suc s x i h, eq-eqb x (getD s i 0) (sym e))
+
+pub before-other : (s : List ℕ) (x i : ℕ) → i < length s → (getD s i 0 ≡ x → ⊥) → before s x (i + 1) ≡ before s x i
+before-other s x i h e = rw (add-one i, before-suc s x i h, ne-eqb x (getD s i 0) (λ q. e (sym q))) (omega arith)
+
+pub before-le : (s : List ℕ) (x i : ℕ) → before s x i ≤ i
+before-le s x i = omega (arith, occ-le x (take i s), length-take i s)
+
+-- what a part has, and what stands before it
+pub occ-part : (s : List ℕ) (x lo n : ℕ) → occurrences x (take n (drop lo s)) + before s x lo ≡ before s x (lo + n)
+occ-part s x lo n = rw (take-add lo n s, occ-append) (omega arith)
+
+pub before-mono : (s : List ℕ) (x lo hi : ℕ) → lo ≤ hi → before s x lo ≤ before s x hi
+before-mono s x lo hi h =
+    let e : lo + (hi - lo) ≡ hi = omega arith in
+    let p : occurrences x (take (hi - lo) (drop lo s)) + before s x lo ≡ before s x hi = rw e at (occ-part s x lo (hi - lo)) in
+    omega arith
+
+pub last-same : (s : List ℕ) (x i : ℕ) → getD s i 0 ≡ x → last s x (i + 1) ≡ i + 1
+unfolding last
+last-same s x i e = rw (add-one i, eq-eqb x (getD s i 0) (sym e))
+
+pub last-other : (s : List ℕ) (x i : ℕ) → (getD s i 0 ≡ x → ⊥) → last s x (i + 1) ≡ last s x i
+unfolding last
+last-other s x i e = rw (add-one i, ne-eqb x (getD s i 0) (λ q. e (sym q)))
+
+pub last-le : (s : List ℕ) (x i : ℕ) → last s x i ≤ i
+unfolding last
+last-le s x zero = omega arith
+last-le s x (suc i) = go (eqb x (getD s i 0)) (last-le s x i)
+  where
+    go : (b : Bool) → last s x i ≤ i → cond b (suc i) (last s x i) ≤ suc i
+    go true l = omega arith
+    go false l = omega arith
+
+-- the latest place of x is at q or later, where q has it
+pub last-past : (s : List ℕ) (x i q : ℕ) → q < i → getD s q 0 ≡ x → q < last s x i
+unfolding last
+last-past s x zero q l e = omega arith
+last-past s x (suc i) q l e =
+    tested (eqb x (getD s i 0))
+    (λ t. rw t l)
+    (λ t. rw t (last-past s x i q (same? q i (λ w. absurd (eqb-false x (getD s i 0) t (sym e ∙ ap (λ (n : ℕ). getD s n 0) w))) (λ w. omega arith)) e))
+
+-- and x stands there
+pub last-has : (s : List ℕ) (x i p : ℕ) → last s x i ≡ p + 1 → getD s p 0 ≡ x
+unfolding last
+last-has s x zero p e = absurd (omega arith)
+last-has s x (suc i) p e =
+    tested (eqb x (getD s i 0))
+    (λ t. let u : i ≡ p = (let v : suc i ≡ p + 1 = rw t at e in omega arith) in ap (λ (n : ℕ). getD s n 0) (sym u) ∙ sym (eqb-true x (getD s i 0) t))
+    (λ t. last-has s x i p (rw t at e))
+
+-- past the latest place there is no more of it
+pub last-none : (s : List ℕ) (x m n : ℕ) → m + n ≤ length s → last s x (m + n) ≤ m → before s x (m + n) ≡ before s x m
+last-none s x m zero h l = let e : m + zero ≡ m = omega arith in ap (before s x) e
+last-none s x m (suc n) h l =
+    let e : m + suc n ≡ m + n + 1 = omega arith in
+    let l′ : last s x (m + n + 1) ≤ m = rw e at l in
+    same? (getD s (m + n) 0) x
+    (λ w. absurd (let z : last s x (m + n + 1) ≡ m + n + 1 = last-same s x (m + n) w in omega arith))
+    (λ w. rw e (before-other s x (m + n) (omega arith) w ∙ last-none s x m n (omega arith) (omega (arith, last-other s x (m + n) w))))

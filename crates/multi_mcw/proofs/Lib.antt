@@ -1,0 +1,10 @@
+pub mod Counting
+pub mod Commonest
+pub mod Keys
+pub mod Sliding
+pub mod Sayings
+pub mod Place
+pub mod Samples
+pub mod Ones
+pub mod Translated
+pub mod Answers

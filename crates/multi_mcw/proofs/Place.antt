@@ -1,0 +1,106 @@
+-- One place of MultiMCW: what the windows say is heard as the definition says it, and the race goes on; the places before 63 change nothing. Assumes nothing.
+use mathlib.Core.Path.{_≡_, refl, sym, ap, _∙_}
+use mathlib.Core.Bool.{true, false, cond}
+use mathlib.Core.List.{List, [], _∷_}
+use Prim.Native.Nat.{ℕ, zero, suc, _+_, _-_, _≤_, _<_, max}
+use native.Mathlib.Omega.{arith}
+use lib.Dec.{leb}
+use lib.ListN.{length, getD, replicate}
+use borrow.Author.Tests.{leb-true, leb-false, le-leb, lt-leb, lt-ltb}
+use Rattle.race.specs.Race.{Guess, silent, says, judge, scored}
+use Rattle.race.specs.Held.{heard, heardFrom, after, tallied, counterLimit, Countable, Led, Leadable}
+use Rattle.race.specs.declared.Leader.{Leader}
+use Rattle.race.specs.declared.Tally.{Tally}
+use Rattle.race.proofs.Cases.{tested}
+use Rattle.race.proofs.Step.{Raced, race-starts, race-winner, race-length, race-countable, race-scorable, race-idle, race-step}
+use Rattle.multi_mcw.specs.Commonest.{commonest, window}
+use Rattle.multi_mcw.specs.Mcw.{size, said, sample, countsOf}
+use Rattle.multi_mcw.specs.Keys.{Kept, AllKept, Samples}
+use Rattle.multi_mcw.specs.Say.{Symbols, sayOf, sayings}
+use Rattle.multi_mcw.specs.declared.Counts.{Counts}
+use Rattle.multi_mcw.specs.declared.Four.{Four}
+use Rattle.multi_mcw.proofs.Keys.{kept-commonest, start-kept}
+
+-- by cases on the window
+pub four : (P : ℕ → Type 0) → P 0 → P 1 → P 2 → P 3 → (j : ℕ) → j < 4 → P j
+four P a b c d zero l = a
+four P a b c d (suc zero) l = b
+four P a b c d (suc (suc zero)) l = c
+four P a b c d (suc (suc (suc zero))) l = d
+four P a b c d (suc (suc (suc (suc j)))) l = absurd (omega arith)
+
+-- the race before place i
+pub record RacedAt (s : List ℕ) (i : ℕ) (leader : Leader) (scores : List ℕ) (t : Tally) : Type 0 where
+  pub raced : Raced 4 (size 0) (said s) (sample s) (i - size 0) (leader .winner) scores t
+  pub bar-is : leader .bar ≡ max (getD scores (leader .winner) 0) 1
+
+pub mcw-starts : (s : List ℕ) → RacedAt s 0 (record { winner = 0; bar = 1 }) (replicate 4 0) (record { hits = 0; run = 0; longest = 0 })
+mcw-starts s = record { raced = race-starts 4 (size 0) (said s) (sample s); bar-is = refl }
+
+-- no window takes part before the first place
+said-silent : (s : List ℕ) (i : ℕ) → i < size 0 → (j : ℕ) → j < 4 → said s i j ≡ silent
+unfolding said
+said-silent s i l =
+    four (λ (j : ℕ). said s i j ≡ silent)
+    (rw (lt-leb (size 0) i l)) (rw (lt-leb (size 1) i (omega arith))) (rw (lt-leb (size 2) i (omega arith))) (rw (lt-leb (size 3) i (omega arith)))
+
+module _ {s : List ℕ} {i : ℕ} {leader : Leader} {scores : List ℕ} {t : Tally} (R : RacedAt s i leader scores t) where
+  pub mcw-winner : leader .winner < 4
+  mcw-winner = race-winner (R .raced) (omega arith)
+
+  pub mcw-scores : length scores ≡ 4
+  mcw-scores = race-length (R .raced)
+
+  pub mcw-countable : {x : ℕ} → x < 256 → i < counterLimit → Countable t x
+  mcw-countable b l = race-countable (R .raced) _ b (omega arith)
+
+  pub mcw-leadable : {x : ℕ} {gs : List ℕ} → x < 256 → i < counterLimit → length gs ≡ 4 → Leadable scores gs leader x
+  mcw-leadable b l e = record { ready = race-scorable (R .raced) _ _ b (omega arith) (omega arith) e; bar-is = R .bar-is }
+
+  -- the guesses gs of place i, where x comes
+  module _ {x : ℕ} (gs : List ℕ) (many : length gs ≡ 4) (came : x ≡ sample s i) (heard-as : (j : ℕ) → j < 4 → heardFrom gs j ≡ said s i j)
+      {leader′ : Leader} {scores′ : List ℕ} {t′ : Tally} (L : Led (scored (heardFrom gs) x (after (leader .winner) scores) (length gs)) leader′ scores′) (te : t′ ≡ tallied (judge (heardFrom gs (leader .winner)) x) t) where
+    early : i < size 0 → RacedAt s (i + 1) leader′ scores′ t′
+    early l =
+        let e : i + 1 - size 0 ≡ i - size 0 = omega arith in
+        record { raced = rw e (race-idle (R .raced) x gs (omega arith) many (λ j b. heard-as j b ∙ said-silent s i l j b) (leader′ .winner) scores′ t′ (L .stands) te); bar-is = L .bar-is }
+
+    predicted : size 0 ≤ i → RacedAt s (i + 1) leader′ scores′ t′
+    predicted l =
+        let e : i + 1 - size 0 ≡ i - size 0 + 1 = omega arith in
+        let p : size 0 + (i - size 0) ≡ i = omega arith in
+        record { raced = rw e (race-step (R .raced) x gs (omega arith) many (rw p came) (λ j b. rw p (heard-as j b)) (leader′ .winner) scores′ t′ (L .stands) te); bar-is = L .bar-is }
+
+    pub mcw-step : RacedAt s (i + 1) leader′ scores′ t′
+    mcw-step = tested (leb (size 0) i) (λ q. predicted (leb-true _ _ q)) (λ q. early (leb-false _ _ q))
+
+  -- after the last place
+  pub mcw-counts : i ≡ length s → _≡_ {A = Counts} (record { c = t .hits; longest = t .longest }) (countsOf s)
+  mcw-counts e = rw (R .raced .hits-are, R .raced .longest-is, e)
+
+-- the literal track: a window's guess is heard as it is said
+say-heard : {s : List ℕ} {k i w : ℕ} {keys : List ℕ} {f : ℕ} → Samples s k → i ≤ length s → 0 < w → Kept s k i w keys f → heard (sayOf f i w) ≡ cond (leb w i) (says (commonest (window s i w))) silent
+say-heard {s} {k} {i} {w} {keys} {f} C h p K =
+    tested (leb w i)
+    (λ t. rw (t, lt-ltb f 256 (omega (arith, K .top .within, C .few)), kept-commonest C h p (leb-true w i t) K))
+    (λ t. rw t)
+
+module _ {s : List ℕ} {k i : ℕ} {k0 k1 k2 k3 : List ℕ} {f : Four} (C : Samples s k) (h : i ≤ length s) (A : AllKept s k i k0 k1 k2 k3 f) where
+  pub sayings-heard : (j : ℕ) → j < 4 → heardFrom (sayings f i) j ≡ said s i j
+  unfolding said
+  sayings-heard =
+      four (λ (j : ℕ). heardFrom (sayings f i) j ≡ said s i j)
+      (say-heard C h (omega arith) (A .first-kept)) (say-heard C h (omega arith) (A .second-kept)) (say-heard C h (omega arith) (A .third-kept)) (say-heard C h (omega arith) (A .fourth-kept))
+
+  pub kept-symbols : Symbols f
+  kept-symbols =
+      record {
+        first-is = omega (arith, A .first-kept .top .within, C .few);
+        second-is = omega (arith, A .second-kept .top .within, C .few);
+        third-is = omega (arith, A .third-kept .top .within, C .few);
+        fourth-is = omega (arith, A .fourth-kept .top .within, C .few);
+      }
+
+pub all-start : (s : List ℕ) (k : ℕ) → 0 < k → k ≤ 256 → AllKept s k 0 (replicate 256 0) (replicate 256 0) (replicate 256 0) (replicate 256 0) (record { first = 0; second = 0; third = 0; fourth = 0 })
+all-start s k p q =
+    record { first-kept = start-kept s k _ p q; second-kept = start-kept s k _ p q; third-kept = start-kept s k _ p q; fourth-kept = start-kept s k _ p q }
