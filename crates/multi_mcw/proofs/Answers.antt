@@ -6,18 +6,17 @@ use Prim.Native.Nat.{ℕ, _*_, _-_, _≤_, _<_}
 use native.Mathlib.Omega.{arith}
 use lib.Dec.{eqb, ltb, leb}
 use lib.ListN.{length}
-use borrow.Author.Tests.{eqb-true, lt-ltb, le-ltb}
+use borrow.Author.Tests.{lt-ltb, le-ltb}
 use Rattle.answer.specs.Numbers.{done, tooLong, tooShort, tooWide, notRun}
 use Rattle.answer.specs.Refused.{refused, refusedAt}
 use Rattle.answer.specs.declared.Answer.{Answer}
 use Rattle.capture.specs.Alphabet.{dense, distinct, written}
-use Rattle.capture.specs.Bits.{bitsOf, firstWide, wide}
+use Rattle.capture.specs.Bits.{bitsOf, tooWideAt}
 use Rattle.capture.specs.Limit.{symbolLimit, widthOf}
 use Rattle.capture.proofs.Bitstring.{bits-length}
+use Rattle.capture.proofs.Widest.{wide-is, wide-place}
 use Rattle.prediction.specs.Estimate.{estimateOf}
-use Rattle.race.proofs.Cases.{tested}
 use Rattle.multi_mcw.specs.Mcw.{countsOf, firstPlace, leastSamples}
-use Rattle.multi_mcw.specs.Ones.{tooWideAt}
 use Rattle.multi_mcw.specs.Tracks.{estimated, mcwBits, literalNumber, mcwLiteral, mcwLiteralOutput}
 use Rattle.multi_mcw.specs.declared.Counts.{Counts}
 use Rattle.multi_mcw.proofs.Translated.{dense-length}
@@ -25,15 +24,6 @@ use Rattle.multi_mcw.proofs.Translated.{dense-length}
 -- the estimate over samples whose counts are r
 estimate-is : (s : List ℕ) (k : ℕ) {n k′ : ℕ} {r : Counts} → r ≡ countsOf s → n ≡ length s → k′ ≡ k → estimateOf (r .c) (n - firstPlace) (r .longest) k′ ≡ estimated s k
 estimate-is s k e n k′ = rw (e, n, k′)
-
--- the first symbol that is too wide is there or not
-wide-is : (s : List ℕ) (v : ℕ) → wide s v ≡ ltb (tooWideAt s v) (length s)
-wide-is s v = tested (eqb v 1) (λ t. rw t) (λ t. rw (t, le-ltb (length s) (length s) (omega arith)))
-
-wide-at : (s : List ℕ) (v : ℕ) → tooWideAt s v < length s → tooWideAt s v ≡ firstWide s
-wide-at s v l =
-    tested (eqb v 1) (λ t. rw t)
-    (λ t. absurd (let z : length s < length s = rw t at l in omega arith))
 
 module _ (s : List ℕ) (w : ℕ) where
   pub bits-too-long : symbolLimit < length s → refused tooLong ≡ mcwBits s w
@@ -51,7 +41,7 @@ module _ (s : List ℕ) (w : ℕ) where
       unfolding mcwBits
       bits-too-wide l =
           let l′ : tooWideAt s v < length s = rw at at l in
-          rw (at, wide-at s v l′) (simp (le-ltb _ _ fits, sym e, le-ltb _ _ many, wide-is s v, lt-ltb _ _ l′))
+          rw (at, wide-place s v l′) (simp (le-ltb _ _ fits, sym e, le-ltb _ _ many, wide-is s v, lt-ltb _ _ l′))
 
       pub bits-done : length s ≤ place → {r : Counts} → r ≡ countsOf (bitsOf s v (length s * v)) → estimateOf (r .c) (length s * v - firstPlace) (r .longest) 2 ≡ mcwBits s w
       unfolding mcwBits

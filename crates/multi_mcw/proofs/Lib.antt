@@ -8,3 +8,5 @@ pub mod Samples
 pub mod Ones
 pub mod Translated
 pub mod Answers
+pub mod Ran
+pub mod Examples

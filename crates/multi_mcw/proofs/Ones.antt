@@ -84,15 +84,23 @@ module _ {s : List ℕ} {i : ℕ} (B : Bits s) (h : i ≤ length s) (m : ℕ) {c
   small-ones : c < 4294967296
   small-ones = omega (arith, O .count, before-le s 1 i, B .short)
 
-  vote-says : m + m + 1 ≤ i → commonest (window s i (m + m + 1)) ≡ cond (ltb (m + m + 1) (c + c)) 1 0
-  vote-says l =
-      let w = window s i (m + m + 1) in
-      let n : length w ≡ m + m + 1 = omega (arith, length-take (m + m + 1) (drop (i - (m + m + 1)) s), length-drop (i - (m + m + 1)) s) in
+  -- the window has c ones
+  window-ones : m + m + 1 ≤ i → occurrences 1 (window s i (m + m + 1)) ≡ c
+  window-ones l =
       let f : i - (m + m + 1) + (m + m + 1) ≡ i = omega arith in
-      let g : occurrences 1 w + before s 1 (i - (m + m + 1)) ≡ before s 1 i = rw f at (occ-part s 1 (i - (m + m + 1)) (m + m + 1)) in
-      let o : occurrences 1 w ≡ c = omega (arith, O .count) in
-      rw (← o) (bits-commonest w m n
-      (λ q k. let k′ : q < m + m + 1 = omega arith in rw (getD-take, getD-drop) (B .below (i - (m + m + 1) + q) (omega arith))))
+      let g : occurrences 1 (window s i (m + m + 1)) + before s 1 (i - (m + m + 1)) ≡ before s 1 i = rw f at (occ-part s 1 (i - (m + m + 1)) (m + m + 1)) in
+      omega (arith, O .count)
+
+  window-length : m + m + 1 ≤ i → length (window s i (m + m + 1)) ≡ m + m + 1
+  window-length l = omega (arith, length-take (m + m + 1) (drop (i - (m + m + 1)) s), length-drop (i - (m + m + 1)) s)
+
+  window-bit : m + m + 1 ≤ i → (q : ℕ) → q < length (window s i (m + m + 1)) → getD (window s i (m + m + 1)) q 0 < 2
+  window-bit l q k =
+      let k′ : q < m + m + 1 = omega (arith, window-length l) in
+      rw (getD-take, getD-drop) (B .below (i - (m + m + 1) + q) (omega arith))
+
+  vote-says : m + m + 1 ≤ i → commonest (window s i (m + m + 1)) ≡ majorityOf c (m + m + 1)
+  vote-says l = rw (← window-ones l) (bits-commonest (window s i (m + m + 1)) m (window-length l) (window-bit l))
 
   vote-heard : heard (sayOf (majorityOf c (m + m + 1)) i (m + m + 1)) ≡ cond (leb (m + m + 1) i) (says (commonest (window s i (m + m + 1)))) silent
   vote-heard =

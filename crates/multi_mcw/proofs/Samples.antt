@@ -5,7 +5,7 @@ use Prim.Native.Nat.{ℕ, zero, suc, _+_, _-_, _*_, _/_, _%_, _^_, _≤_, _<_}
 use native.Mathlib.Omega.{arith}
 use lib.ListN.{length, getD, length-append, List·getD-append}
 use lib.Seq.{getD-at}
-use Rattle.capture.specs.Bits.{bitAt, bitsOf}
+use Rattle.capture.specs.Bits.{Source, bitAt, bitsOf}
 use Rattle.capture.specs.Limit.{symbolLimit}
 use Rattle.capture.specs.Spots.{spotOf, nextSpot, spotBit}
 use Rattle.capture.specs.declared.Spot.{Spot}
@@ -13,7 +13,6 @@ use Rattle.capture.proofs.Bitstring.{bits-length, bits-at, bit-small, bit-narro
 use Rattle.capture.proofs.Clamping.{width-same, bits-small}
 use Rattle.capture.proofs.Walking.{spot-bit, spot-next, spot-after, spot-inside}
 use Rattle.race.proofs.Cases.{same?}
-use Rattle.multi_mcw.specs.Ones.{Source}
 
 -- a list of bits that is not too long
 pub record Bits (s : List ℕ) : Type 0 where
@@ -22,7 +21,7 @@ pub record Bits (s : List ℕ) : Type 0 where
 
 module _ {symbols : List ℕ} {width n : ℕ} (S : Source symbols width n) where
   pub source-short : n < 4294967296
-  source-short = omega (arith, S .within, bits-small (length symbols) width (S .fits) (sym (width-same width (S .some) (S .most))))
+  source-short = omega (arith, S .within, bits-small (length symbols) width (S .short) (sym (width-same width (S .some) (S .narrow))))
 
   pub source-bits : Bits (bitsOf symbols width n)
   source-bits =
@@ -34,13 +33,13 @@ module _ {symbols : List ℕ} {width n : ℕ} (S : Source symbols width n) where
   -- at the spot of bit i
   module _ {i : ℕ} {spot : Spot} (l : i < n) (e : spot ≡ spotOf width i) where
     pub spot-asks : (spot .at < length symbols) × (spot .after < 8)
-    spot-asks = rw e (spot-inside width i (S .some) symbols (omega (arith, S .within)), omega (arith, spot-after width i (S .some), S .most))
+    spot-asks = rw e (spot-inside width i (S .some) symbols (omega (arith, S .within)), omega (arith, spot-after width i (S .some), S .narrow))
 
     pub spot-has : {x : ℕ} → x ≡ spotBit symbols spot → x ≡ getD (bitsOf symbols width n) i 0
     spot-has h = h ∙ ap (spotBit symbols) e ∙ spot-bit symbols width i ∙ sym (bits-at symbols width n i l)
 
     pub next-asks : (0 < width) × (spot .at < symbolLimit)
-    next-asks = (S .some, omega (arith, spot-asks .0, S .fits))
+    next-asks = (S .some, omega (arith, spot-asks .0, S .short))
 
     pub spot-goes : {spot′ : Spot} → spot′ ≡ nextSpot width spot → spot′ ≡ spotOf width (i + 1)
     spot-goes h = h ∙ ap (nextSpot width) e ∙ spot-next width i (S .some)

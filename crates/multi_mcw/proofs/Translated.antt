@@ -6,39 +6,27 @@ use Prim.Native.Nat.{ℕ, zero, suc, _+_, _*_, _≤_, _<_}
 use native.Mathlib.Omega.{arith}
 use lib.Dec.{eqb, ltb}
 use lib.ListN.{length, getD, take, drop, length-map}
-use lib.Seq.{take-at, ext-getD}
+use lib.Seq.{take-at}
 use borrow.Author.Tests.{le-ltb}
 use Rattle.capture.specs.Alphabet.{alphabetNumber, alphabetOf, dense, distinct, firstSight, outputOf, written}
-use Rattle.capture.specs.Bits.{bitsOf}
 use Rattle.capture.specs.Limit.{symbolLimit}
 use Rattle.capture.specs.declared.Alphabet.{Alphabet}
-use Rattle.capture.proofs.Alphabets.{Bytes, sight-below}
-use Rattle.capture.proofs.Bitstring.{bits-length, bits-at, bit-narrow}
+use Rattle.capture.proofs.Alphabets.{Bytes, dense-below}
 use Rattle.capture.proofs.Clamping.{limit-small}
 use Rattle.capture.proofs.Distinct.{distinct-le}
-use Rattle.capture.proofs.Membership.{has-at}
 use Rattle.multi_mcw.specs.Keys.{Samples}
-
-map-at : (f : ℕ → ℕ) (s : List ℕ) (i : ℕ) → i < length s → getD (map f s) i 0 ≡ f (getD s i 0)
-map-at f [] i l = absurd (omega arith)
-map-at f (x ∷ s) zero l = refl
-map-at f (x ∷ s) (suc i) l = map-at f s i (omega arith)
 
 pub dense-length : (s : List ℕ) → length (dense s) ≡ length s
 dense-length s = length-map s (firstSight s)
 
 module _ (s : List ℕ) (bytes : Bytes s) where
-  -- the number of a symbol of the capture
-  number-below : (i : ℕ) → i < length s → firstSight s (getD s i 0) < distinct s
-  number-below i l = sight-below s (getD s i 0) (has-at s i l) (bytes i l)
-
   pub dense-samples : 0 < length s → length s ≤ symbolLimit → Samples (dense s) (distinct s)
   dense-samples some fits =
       record {
-        some = omega (arith, number-below 0 some);
+        some = omega (arith, dense-below s bytes 0 some);
         few = distinct-le s;
         short = omega (arith, dense-length s, limit-small);
-        below = λ i l. let l′ : i < length s = omega (arith, dense-length s) in rw (map-at (firstSight s) s i l′) (number-below i l′);
+        below = λ i l. dense-below s bytes i (omega (arith, dense-length s));
       }
 
   -- what the counting needs of a translated list p
@@ -55,12 +43,3 @@ module _ (s out : List ℕ) (fits : length s ≤ symbolLimit) (room : length s �
 
   pub part-is : {out′ : List ℕ} → out′ ≡ outputOf dense s out → take (length s) out′ ≡ dense s
   part-is e = ap (take (length s)) (out-is e) ∙ take-at (dense s) (drop (length (dense s)) out) (length s) (dense-length s)
-
--- two values, read as bits
-pub bits-are : (s : List ℕ) → ((i : ℕ) → i < length s → getD s i 0 < 2) → bitsOf s 1 (length s) ≡ s
-bits-are s h = ext-getD 0 (bitsOf s 1 (length s)) s (bits-length s 1 (length s)) each
-  where
-    each : (i : ℕ) → i < length (bitsOf s 1 (length s)) → getD (bitsOf s 1 (length s)) i 0 ≡ getD s i 0
-    each i l =
-        let l′ : i < length s = omega (arith, bits-length s 1 (length s)) in
-        bits-at s 1 (length s) i l′ ∙ bit-narrow s i (omega (arith, h i l′))

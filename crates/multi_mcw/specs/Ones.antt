@@ -3,20 +3,11 @@ use mathlib.Core.Path.{_≡_}
 use mathlib.Core.Bool.{cond}
 use mathlib.Core.List.{List, [], _∷_}
 use Prim.Native.Nat.{ℕ, _+_, _-_, _*_, _%_, _≤_, _<_}
-use lib.Dec.{eqb, ltb}
+use lib.Dec.{ltb}
 use lib.ListN.{length, getD}
-use Rattle.capture.specs.Bits.{firstWide}
-use Rattle.capture.specs.Limit.{symbolLimit}
 use Rattle.multi_mcw.specs.Mcw.{size}
 use Rattle.multi_mcw.specs.Keys.{before}
 use Rattle.multi_mcw.specs.declared.Four.{Four}
-
--- a bit source: the first n bits of symbols, `width` of each
-pub record Source (symbols : List ℕ) (width n : ℕ) : Type 0 where
-  pub some : 0 < width
-  pub most : width ≤ 8
-  pub within : n ≤ length symbols * width
-  pub fits : length symbols ≤ symbolLimit
 
 -- c ones stand in the window of w bits before place i
 pub record Ones (s : List ℕ) (i w c : ℕ) : Type 0 where
@@ -79,7 +70,3 @@ pub record Small (ones : Four) : Type 0 where
   pub second-small : ones .second < 4611686018427387904
   pub third-small : ones .third < 4611686018427387904
   pub fourth-small : ones .fourth < 4611686018427387904
-
--- the first symbol that is too wide for a source of this width; the length where there is none
-abbrev pub tooWideAt : List ℕ → ℕ → ℕ
-tooWideAt symbols width = cond (eqb width 1) (firstWide symbols) (length symbols)

@@ -8,7 +8,6 @@ use crate::THIRD;
 use crate::say::say_all;
 use capture::bits::bit_at;
 use capture::bits::first_spot;
-use capture::bits::first_wide;
 use capture::bits::next_spot;
 use race::Leader;
 use race::SILENT;
@@ -18,25 +17,14 @@ use race::lead;
 ghost use mathlib.Core.Path.{_≡_};
 ghost use Prim.Native.Nat.{_+_, _-_, _<_, _≤_};
 ghost use lib.ListN.{getD, length};
-ghost use Rattle.capture.specs.Bits.{bitsOf};
+ghost use Rattle.capture.specs.Bits.{Source, bitsOf};
 ghost use Rattle.multi_mcw.specs.Mcw.{countsOf};
-ghost use Rattle.multi_mcw.specs.Ones.{AllRoll, Rolls, Small, Source, majoritiesOf, majorityOf, pastIn, rolled, tooWideAt};
+ghost use Rattle.multi_mcw.specs.Ones.{AllRoll, Rolls, Small, majoritiesOf, majorityOf, pastIn, rolled};
 
 fn wide(x: u8) -> usize
     ensures { λ r. ⌜ r ≡ x ⌝ }
 {
     x as usize
-}
-
-// The first symbol that is too wide: one above 1, at width 1. The length where there is none.
-pub fn too_wide_at(symbols: &[u8], width: u32) -> usize
-    ensures { λ r. ⌜ r ≡ tooWideAt (now (symbols .entry)) width ⌝ }
-{
-    if width == 1 {
-        first_wide(symbols)
-    } else {
-        symbols.len()
-    }
 }
 
 // The commonest bit of a window of size w with `ones` ones.

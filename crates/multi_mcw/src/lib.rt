@@ -7,6 +7,7 @@ use answer::TOO_WIDE;
 use answer::refused_as;
 use answer::refused_at;
 use capture::bits::SYMBOL_LIMIT;
+use capture::bits::too_wide_at;
 use capture::bits::width_of;
 use capture::translate::dense_alphabet;
 use prediction::estimate::prediction_estimate;
@@ -55,7 +56,7 @@ pub fn multi_mcw(symbols: &[u8], bits_per_symbol: u8) -> Answer
     if n < LEAST_SAMPLES {
         return refused_as(NOT_RUN);
     }
-    let place = bits::too_wide_at(symbols, width);
+    let place = too_wide_at(symbols, width);
     if place < symbols.len() {
         return refused_at(TOO_WIDE, place as u64);
     }

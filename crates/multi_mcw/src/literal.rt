@@ -19,10 +19,19 @@ ghost use Rattle.capture.specs.Limit.{symbolLimit};
 ghost use Rattle.multi_mcw.specs.Mcw.{countsOf};
 ghost use Rattle.multi_mcw.specs.Keys.{AllKept, Better, Kept, Samples, Top, come, left, unit};
 
+// One occurrence more in a key: 2^32.
+const UNIT: u64 = 4_294_967_296;
+
 fn wide(x: u8) -> usize
     ensures { λ r. ⌜ r ≡ x ⌝ }
 {
     x as usize
+}
+
+fn symbol(x: u8) -> u16
+    ensures { λ r. ⌜ (r ≡ x) × (r < 256) ⌝ }
+{
+    x as u16
 }
 
 // The symbol with the largest key.
@@ -49,7 +58,7 @@ fn leave(keys: &mut [u64; 256], d: usize)
     requires { ⌜ (d < 256) × (unit ≤ getD (now keys) d 0) ⌝ }
     ensures { λ _. ⌜ now (keys .exit) ≡ left (now (keys .entry)) d ⌝ }
 {
-    keys[d] = keys[d] - 4294967296;
+    keys[d] = keys[d] - UNIT;
 }
 
 // The sample x of place i comes into the window.
@@ -57,7 +66,7 @@ fn enter(keys: &mut [u64; 256], x: usize, i: usize)
     requires { ⌜ (x < 256) × (i < 4294967295) × (getD (now keys) x 0 / unit < 4294967295) ⌝ }
     ensures { λ _. ⌜ now (keys .exit) ≡ come (now (keys .entry)) x i ⌝ }
 {
-    keys[x] = (keys[x] / 4294967296 + 1) * 4294967296 + (i as u64 + 1);
+    keys[x] = (keys[x] / UNIT + 1) * UNIT + (i as u64 + 1);
 }
 
 // Which of f and x has the larger key.
@@ -140,7 +149,7 @@ pub fn mcw_symbols(s: &[u8], k: usize) -> Counts
     let mut g = [SILENT; 4];
     let mut i: usize = 0;
     while i < s.len() {
-        let x = s[i] as u16;
+        let x = symbol(s[i]);
         say_all(&mut g, f, i);
         let winner = leader.winner;
         t = count(t, g[winner], x);

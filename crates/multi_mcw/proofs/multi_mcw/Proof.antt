@@ -63,9 +63,9 @@ mcw-bits-requires c κs =
     let w = b .before .before .before .args .bits-per-symbol in
     record {
       some = omega (arith, b .width-of .ensures, width-least w);
-      most = omega (arith, b .width-of .ensures, width-most w);
+      narrow = omega (arith, b .width-of .ensures, width-most w);
       within = omega arith;
-      fits = fits e;
+      short = fits e;
     }
 
 sub-prediction-estimate : tie.Need-sub-prediction-estimate

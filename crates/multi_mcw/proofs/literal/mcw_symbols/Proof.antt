@@ -23,35 +23,31 @@ abbrev μ-loop : tie.MeasureT-loop
 soon : (a : tie.At-loop Inv-loop μ-loop) → a .loop .i < counterLimit
 soon a = omega (arith, a .loop .inv .0, a .before .before .pre .short)
 
--- the sample of the place is a symbol
-small : (a : tie.In-loop Inv-loop μ-loop) → getD (now (a .before .before .before .args .s)) (a .before .loop .i) 0 < 256
-small a = let z = a .before .before .before in omega (arith, z .pre .below (a .before .loop .i) (a .loop-test .taken), z .pre .few)
-
 loop-holds : tie.Need-loop-holds Inv-loop μ-loop
 loop-holds c =
     let z = c .before in
     (omega arith, all-start (now (z .args .s)) (z .args .k) (z .pre .some) (z .pre .few), mcw-starts (now (z .args .s)), refl)
 
-shared-slice-read-x : tie.Need-shared-slice-read-x Inv-loop μ-loop
-shared-slice-read-x c = omega arith
+shared-slice-read-symbol : tie.Need-shared-slice-read-symbol Inv-loop μ-loop
+shared-slice-read-symbol c = omega arith
 
-cast-x : tie.Need-cast-x Inv-loop μ-loop
-cast-x c = omega (arith, small (c .before))
+symbol-requires : tie.Need-symbol-requires Inv-loop μ-loop
+symbol-requires c κs = tt
 
 say-all-requires : tie.Need-say-all-requires Inv-loop μ-loop
-say-all-requires c κs = let a = c .before .before .before in (a .loop .inv .3, kept-symbols (a .before .before .pre) (a .loop .inv .0) (a .loop .inv .1))
+say-all-requires c κs = let a = c .before .before .before .before in (a .loop .inv .3, kept-symbols (a .before .before .pre) (a .loop .inv .0) (a .loop .inv .1))
 
 mul-count : tie.Need-mul-count Inv-loop μ-loop
-mul-count c = let a = c .before .before .before .before in omega (arith, mcw-winner (a .loop .inv .2))
+mul-count c = let a = c .before .before .before .before .before in omega (arith, mcw-winner (a .loop .inv .2))
 
 array-read-count : tie.Need-array-read-count Inv-loop μ-loop
-array-read-count c = let a = c .before .before .before .before in mcw-winner (a .loop .inv .2)
+array-read-count c = let a = c .before .before .before .before .before in mcw-winner (a .loop .inv .2)
 
 count-requires : tie.Need-count-requires Inv-loop μ-loop
-count-requires c κs = let t = c .before .before .before in mcw-countable (t .before .loop .inv .2) (small t) (soon (t .before))
+count-requires c κs = let y = c .before .before in let a = y .before .before .before in mcw-countable (a .loop .inv .2) (y .symbol .ensures .1) (soon a)
 
 slice-aggregate-lead : tie.Need-slice-aggregate-lead Inv-loop μ-loop
-slice-aggregate-lead c = let a = c .before .before .before .before .before .before in sym (mcw-scores (a .loop .inv .2))
+slice-aggregate-lead c = let a = c .before .before .before .before .before .before .before in sym (mcw-scores (a .loop .inv .2))
 
 slice-aggregate-lead-2 : tie.Need-slice-aggregate-lead-2 Inv-loop μ-loop
 slice-aggregate-lead-2 c = sym (ap length (c .before .before .before .say-all .ensures))
@@ -59,26 +55,28 @@ slice-aggregate-lead-2 c = sym (ap length (c .before .before .before .say-all .e
 lead-requires : tie.Need-lead-requires Inv-loop μ-loop
 lead-requires c κs =
     let v = c .before .before .before in
-    let t = v .before .before .before in
-    mcw-leadable (t .before .loop .inv .2) (small t) (soon (t .before)) (ap length (v .say-all .ensures))
+    let y = v .before .before in
+    let a = y .before .before .before in
+    mcw-leadable (a .loop .inv .2) (y .symbol .ensures .1) (soon a) (ap length (v .say-all .ensures))
 
 -- the race after the place
 judged : (c : tie.After-lead Inv-loop μ-loop)
-    → let a = c .before .before .before .before .before .before .before .before in
+    → let a = c .before .before .before .before .before .before .before .before .before in
     RacedAt (now (a .before .before .args .s)) (a .loop .i + 1) (c .lead .result) (c .lead .last .0) (c .before .before .before .count .result)
 judged c =
     let v = c .before .before .before .before in
-    let a = v .before .before .before .before in
+    let y = v .before .before in
+    let a = y .before .before .before in
     let said = sayings-heard (a .before .before .pre) (a .loop .inv .0) (a .loop .inv .1) in
-    mcw-step (a .loop .inv .2) (v .say-all .last .0) (ap length (v .say-all .ensures)) refl (λ j l. rw (v .say-all .ensures) (said j l)) (c .lead .ensures) (c .before .before .before .count .ensures)
+    mcw-step (a .loop .inv .2) (v .say-all .last .0) (ap length (v .say-all .ensures)) (y .symbol .ensures .0) (λ j l. rw (v .say-all .ensures) (said j l)) (c .lead .ensures) (c .before .before .before .count .ensures)
 
 -- the turn of a place, from its last step
 turn : tie.After-slide-all Inv-loop μ-loop → tie.In-loop Inv-loop μ-loop
-turn c = c .before .before .before .before .before .before .before .before .before .before .before .before .before
+turn c = c .before .before .before .before .before .before .before .before .before .before .before .before .before .before
 
 slide-all-requires : tie.Need-slide-all-requires Inv-loop μ-loop
 slide-all-requires c κs =
-    let t = c .before .before .before .before .before .before .before .before .before .before .before .before in
+    let t = c .before .before .before .before .before .before .before .before .before .before .before .before .before in
     let a = t .before in
     (t .loop-test .taken, a .before .before .pre, a .loop .inv .1)
 
@@ -108,8 +106,8 @@ mcw-symbols-spec =
     Inv-loop
     μ-loop
     loop-holds
-    shared-slice-read-x
-    cast-x
+    shared-slice-read-symbol
+    symbol-requires
     say-all-requires
     mul-count
     array-read-count

@@ -6,7 +6,7 @@ use native.Mathlib.Omega.{arith}
 use borrow.Author.Needs.{needs}
 use denote.Ref.{now}
 use Rattle.multi_mcw.specs.Mcw.{countsOf}
-use Rattle.multi_mcw.proofs.Translated.{bits-are}
+use Rattle.capture.proofs.Bitstring.{bits-narrow}
 use Rattle.multi_mcw.proofs.literal.mcw_translated.Statement.{statement}
 use Rattle.multi_mcw.proofs.literal.mcw_translated.Tie as tie
 
@@ -17,7 +17,7 @@ returns : tie.Need-returns
 returns c =
     let z = c .before .before .before in
     let s = now (z .args .s) in
-    c .mcw-bits .ensures ∙ ap countsOf (bits-are s (λ i l. omega (arith, z .pre .1 .below i l, c .before .if1 .taken)))
+    c .mcw-bits .ensures ∙ ap countsOf (bits-narrow s (λ i l. omega (arith, z .pre .1 .below i l, c .before .if1 .taken)))
 
 mcw-symbols-requires : tie.Need-mcw-symbols-requires
 mcw-symbols-requires c κs = search needs
