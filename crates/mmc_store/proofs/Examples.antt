@@ -1,0 +1,33 @@
+-- The definitions at small captures. Assumes nothing.
+use mathlib.Core.Path.{_≡_, refl}
+use mathlib.Core.List.{List, [], _∷_}
+use Prim.Native.Nat.{ℕ}
+use Rattle.race.specs.Race.{scored, standing, event, events, hits, stretch, longest}
+use Rattle.mmc_bits.specs.Levels.{levels, cap}
+use Rattle.mmc_store.specs.Counts.{same, present, count, largest, predicted}
+use Rattle.mmc_store.specs.Levels.{whenFound, whenAbsent, found, level, guess}
+use Rattle.mmc_store.specs.Mmc.{correctOf, longestOf}
+
+-- document 01's literal row 10 30 10 20 10 30, numbered in rising order: a tie goes to the larger symbol
+row : List ℕ
+row = 0 ∷ 2 ∷ 0 ∷ 1 ∷ 0 ∷ 2 ∷ []
+
+row-correct : correctOf levels cap row ≡ 1
+unfolding row same present count largest predicted whenFound whenAbsent found level guess scored standing event events hits
+row-correct = refl
+
+row-longest : longestOf levels cap row ≡ 1
+unfolding row same present count largest predicted whenFound whenAbsent found level guess scored standing event events stretch longest
+row-longest = refl
+
+-- a cap of one entry and of two: the same capture has two hits, and three
+turning : List ℕ
+turning = 0 ∷ 1 ∷ 2 ∷ 0 ∷ 1 ∷ 2 ∷ 0 ∷ 1 ∷ []
+
+one-entry : correctOf 2 1 turning ≡ 2
+unfolding turning same present count largest predicted whenFound whenAbsent found level guess scored standing event events hits
+one-entry = refl
+
+two-entries : correctOf 2 2 turning ≡ 3
+unfolding turning same present count largest predicted whenFound whenAbsent found level guess scored standing event events hits
+two-entries = refl

@@ -1,0 +1,118 @@
+-- `new_pair` writes the numbers of a pair that its model sets, in the same order.
+-- It reads what it writes over before it writes. Assumes nothing.
+use native.Mathlib.Omega.{arith}
+use lib.ListN.{length-set}
+use Rattle.mmc_store.specs.Step.{newPair}
+use borrow.Author.Needs.{needs}
+use Rattle.mmc_store.proofs.part.new_pair.Statement.{statement}
+use Rattle.mmc_store.proofs.part.new_pair.Tie as tie
+
+read-requires : tie.Need-read-requires
+read-requires c κs = search needs
+
+add-p : tie.Need-add-p
+add-p c = search needs
+
+add-read : tie.Need-add-read
+add-read c = search needs
+
+read-requires-2 : tie.Need-read-requires-2
+read-requires-2 c κs = search needs
+
+cast-m : tie.Need-cast-m
+cast-m c = search needs
+
+mul-m : tie.Need-mul-m
+mul-m c = search needs
+
+add-m : tie.Need-add-m
+add-m c = search needs
+
+mul-m-2 : tie.Need-mul-m-2
+mul-m-2 c = search needs
+
+slice-write-m : tie.Need-slice-write-m
+slice-write-m c = search needs
+
+cast-m-2 : tie.Need-cast-m-2
+cast-m-2 c = search needs
+
+mul-m-3 : tie.Need-mul-m-3
+mul-m-3 c = search needs
+
+add-m-2 : tie.Need-add-m-2
+add-m-2 c = search needs
+
+mul-m-4 : tie.Need-mul-m-4
+mul-m-4 c = search needs
+
+slice-write-m-2 : tie.Need-slice-write-m-2
+slice-write-m-2 c = simp length-set (omega arith)
+
+mul-m-5 : tie.Need-mul-m-5
+mul-m-5 c = search needs
+
+add-m-3 : tie.Need-add-m-3
+add-m-3 c = search needs
+
+mul-m-6 : tie.Need-mul-m-6
+mul-m-6 c = search needs
+
+slice-write-m-3 : tie.Need-slice-write-m-3
+slice-write-m-3 c = simp length-set (omega arith)
+
+cast-m-3 : tie.Need-cast-m-3
+cast-m-3 c = search needs
+
+add-m-4 : tie.Need-add-m-4
+add-m-4 c = search needs
+
+mul-m-7 : tie.Need-mul-m-7
+mul-m-7 c = search needs
+
+slice-write-m-4 : tie.Need-slice-write-m-4
+slice-write-m-4 c = simp length-set (omega arith)
+
+cast-m-4 : tie.Need-cast-m-4
+cast-m-4 c = search needs
+
+slice-write-m-5 : tie.Need-slice-write-m-5
+slice-write-m-5 c = simp length-set (omega arith)
+
+same-length : tie.Need-same-length
+same-length c = search needs
+
+returns : tie.Need-returns
+unfolding newPair
+returns c = rw (c .before .before .read .ensures .0, c .read2 .ensures .0)
+
+pub new-pair-spec : {M : Type 1} → statement M
+new-pair-spec =
+    tie.close
+    (tie.spec
+    read-requires
+    add-p
+    add-read
+    read-requires-2
+    cast-m
+    mul-m
+    add-m
+    mul-m-2
+    slice-write-m
+    cast-m-2
+    mul-m-3
+    add-m-2
+    mul-m-4
+    slice-write-m-2
+    mul-m-5
+    add-m-3
+    mul-m-6
+    slice-write-m-3
+    cast-m-3
+    add-m-4
+    mul-m-7
+    slice-write-m-4
+    cast-m-4
+    slice-write-m-5
+    same-length
+    returns)

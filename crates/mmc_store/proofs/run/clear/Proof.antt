@@ -1,0 +1,66 @@
+-- After i turns the first i numbers are 0 and the others as they were.
+-- Assumes nothing.
+use Prim.Native.Nat.{_-_, _≤_}
+use mathlib.Core.Path.{_≡_, refl, ap, _∙_}
+use mathlib.Core.List.{_++_}
+use native.Mathlib.Omega.{arith}
+use lib.ListN.{length, replicate, drop, set, length-set}
+use borrow.Author.Fill.{fill-more}
+use borrow.Author.Needs.{scaled-fits}
+use Rattle.mmc_store.proofs.Parts.{filled}
+use Rattle.mmc_store.proofs.run.clear.Statement.{statement}
+use Rattle.mmc_store.proofs.run.clear.Tie as tie
+
+abbrev Inv-loop : tie.InvT-loop
+Inv-loop space₀ i₀ space i = (space ≡ replicate i 0 ++ drop i space₀) × (length space ≡ length space₀) × (i ≤ length space₀)
+
+abbrev μ-loop : tie.MeasureT-loop
+μ-loop space₀ i₀ space i = length space₀ - i
+
+loop-holds : tie.Need-loop-holds Inv-loop μ-loop
+loop-holds c = (refl, refl, omega arith)
+
+mul-space : tie.Need-mul-space Inv-loop μ-loop
+mul-space c =
+    let o = c .before .loop in
+    let a = c .before .before in
+    scaled-fits (o .i) (length (a .args .space .now)) 4 (omega arith) (a .good .0 .1)
+
+slice-write-space : tie.Need-slice-write-space Inv-loop μ-loop
+slice-write-space c = omega arith
+
+add-i : tie.Need-add-i Inv-loop μ-loop
+add-i c = omega arith
+
+loop-less : tie.Need-loop-less Inv-loop μ-loop
+loop-less c = omega arith
+
+loop-again : tie.Need-loop-again Inv-loop μ-loop
+loop-again c =
+    let o = c .before .loop in
+    let a = c .before .before in
+    (ap (λ l. set l (o .i) 0) (o .inv .0) ∙ fill-more (o .i) 0 (a .args .space .now) (omega arith), simp length-set (o .inv .1), omega arith)
+
+same-length : tie.Need-same-length Inv-loop μ-loop
+same-length c = c .before .loop .inv .1
+
+returns : tie.Need-returns Inv-loop μ-loop
+returns c =
+    let o = c .before .loop in
+    let a = c .before .before in
+    filled (a .args .space .now) (o .space) (o .i) (omega arith) (o .inv .0)
+
+pub clear-spec : {M : Type 1} → statement M
+clear-spec =
+    tie.close
+    (tie.spec
+    Inv-loop
+    μ-loop
+    loop-holds
+    mul-space
+    slice-write-space
+    add-i
+    loop-less
+    loop-again
+    same-length
+    returns)

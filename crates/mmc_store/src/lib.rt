@@ -1,0 +1,13 @@
+// MultiMMC over a general alphabet (SP 800-90B 6.3.9): sixteen levels count which symbol followed their contexts, and race.
+mod count;
+mod find;
+mod level;
+mod part;
+mod place;
+pub mod run;
+
+// "a context is present with its predicted symbol, or absent"
+pub enum Context {
+    Present(u8),
+    Absent,
+}

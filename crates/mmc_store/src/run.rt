@@ -1,0 +1,63 @@
+// The whole run.
+use crate::place::at_place;
+use race::SILENT;
+use race::Tally;
+use race::count;
+use race::score;
+ghost use mathlib.Core.Path.{_≡_};
+ghost use Prim.Native.Nat.{_<_, _≤_};
+ghost use lib.ListN.{length, replicate};
+ghost use Rattle.capture.specs.Limit.{symbolLimit};
+ghost use Rattle.mmc_bits.specs.Levels.{levels, cap};
+ghost use Rattle.mmc_store.specs.Mmc.{tallyOf};
+ghost use Rattle.mmc_store.specs.Space.{size, final};
+
+// How many numbers sixteen levels take.
+const SIZE: usize = 16_777_216;
+
+// Nothing counted.
+fn clear(space: &mut [u32])
+    ensures { λ _. ⌜ now (space .exit) ≡ replicate (length (now (space .entry))) 0 ⌝ }
+{
+    let mut i = 0;
+    while i < space.len() {
+        space[i] = 0;
+        i += 1;
+    }
+}
+
+// All places, one after the other, from cleared numbers on.
+fn run(s: &[u8], space: &mut [u32]) -> Tally
+    requires { ⌜ (length (now s) < 4294967296) × (length (now space) ≡ size levels) ⌝ }
+    ensures { λ r. ⌜ r ≡ tallyOf levels cap (now (s .entry)) ⌝ }
+{
+    clear(space);
+    let mut guesses = [SILENT; 16];
+    let mut scores = [0u64; 16];
+    let mut winner: usize = 0;
+    let mut tally = Tally {
+        hits: 0,
+        run: 0,
+        longest: 0,
+    };
+    let mut place = 0;
+    while place < s.len() {
+        at_place(s, space, &mut guesses, place);
+        let x = s[place] as u16;
+        tally = count(tally, guesses[winner], x);
+        winner = score(&mut scores, &guesses, winner, x);
+        place += 1;
+    }
+    tally
+}
+
+// MultiMMC over the symbols s. Space need not be cleared first; its first 16,777,216 numbers are left zero, and all beyond unchanged.
+pub fn mmc_symbols(s: &[u8], space: &mut [u32]) -> Tally
+    requires { ⌜ (length (now s) ≤ symbolLimit) × (size levels ≤ length (now space)) ⌝ }
+    ensures { λ r. ⌜ r ≡ tallyOf levels cap (now (s .entry)) ⌝ }
+    ensures { λ _. ⌜ now (space .exit) ≡ final levels (now (space .entry)) ⌝ }
+{
+    let tally = run(s, &mut space[0..SIZE]);
+    clear(&mut space[0..SIZE]);
+    tally
+}

@@ -1,0 +1,3 @@
+pub mod BitsAnswers
+pub mod LiteralAnswers
+pub mod Translated
