@@ -21,7 +21,7 @@ ghost use Rattle.mmc_store.specs.Part.{partSize, capacity, hashes, conte
 // How many entries a level makes.
 pub const CAP: usize = 100_000;
 
-// Makes a context, its first pair and an entry.
+// Makes a context and its first pair.
 fn count_first(m: &mut [u32], hash: usize, place: usize, x: usize)
     requires { ⌜ (length (now m) ≡ partSize) × (getD (now m) contextsAt 0 < capacity) × (getD (now m) pairsAt 0 < capacity) × (hash < hashes) × (place < 4294967296) × (x < 256) ⌝ }
     ensures { λ _. ⌜ now (m .exit) ≡ newPair (newContext (now (m .entry)) hash place x) (keyOf (getD (now (m .entry)) contextsAt 0 + 1) x) ⌝ }

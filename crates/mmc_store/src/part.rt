@@ -41,6 +41,7 @@ pub const PAIRS: usize = CONTEXTS + 1;
 
 pub const ENTRIES: usize = CONTEXTS + 2;
 
+// One number of a part.
 pub fn read(m: &[u32], at: usize) -> usize
     requires { ⌜ at < length (now m) ⌝ }
     ensures { λ r. ⌜ (r ≡ getD (now (m .entry)) at 0) × (r < 4294967296) ⌝ }

@@ -19,6 +19,7 @@ fn next_hash(hash: usize, x: u8) -> usize
     (hash * 263 + (x as usize) + 1) % HASHES
 }
 
+// The smaller of two numbers.
 fn least(a: usize, b: usize) -> usize
     ensures { λ r. ⌜ (r ≤ a) × (r ≤ b) × (r < a → b ≤ r) ⌝ }
 {

@@ -15,7 +15,7 @@ ghost use Rattle.mmc_store.specs.Space.{size, final};
 // How many numbers sixteen levels take.
 const SIZE: usize = 16_777_216;
 
-// Nothing counted.
+// Every number is zero: nothing is counted.
 fn clear(space: &mut [u32])
     ensures { λ _. ⌜ now (space .exit) ≡ replicate (length (now (space .entry))) 0 ⌝ }
 {

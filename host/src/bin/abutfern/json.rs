@@ -1,0 +1,112 @@
+//! A rating as one JSON object. Doubles are printed so that they read back with the same bits.
+
+use crate::rate::{ESTIMATORS, Estimator, Rating};
+use abutfern::Answer;
+use abutfern::numbers::meaning;
+
+/// The object of one file.
+pub fn text(file: &str, rating: &Rating) -> String {
+    let answers = ESTIMATORS.iter().zip(&rating.answers);
+    let estimates: Vec<String> = answers
+        .map(|(estimator, answer)| estimate(estimator, answer, rating))
+        .collect();
+    let (wide, first) = rating.wide.unwrap_or((0, 0));
+    let wide = if wide == 0 {
+        "null".to_string()
+    } else {
+        format!(r#"{{"count":{wide},"first_place":{first}}}"#)
+    };
+    format!(
+        r#"{{"file":{},"symbols":{},"width":{},"estimates":[{}],"symbols_above_width":{wide},"figure":{}}}"#,
+        quoted(file),
+        rating.symbols,
+        rating.width,
+        estimates.join(","),
+        figure(rating)
+    ) + "\n"
+}
+
+/// The object of a file that could not be read.
+pub fn failure(file: &str, error: &str) -> String {
+    format!(r#"{{"file":{},"error":{}}}"#, quoted(file), quoted(error)) + "\n"
+}
+
+fn estimate(estimator: &Estimator, answer: &Answer, rating: &Rating) -> String {
+    let head = format!(
+        r#""estimator":{},"number":{},"answer":{}"#,
+        quoted(estimator.name),
+        answer.number,
+        quoted(meaning(answer.number))
+    );
+    let rest = match answer.number {
+        0 => ran(answer),
+        3 => format!(r#","place":{}"#, answer.place),
+        6 => format!(
+            r#","samples":{},"needed":{}"#,
+            estimator.samples(rating),
+            estimator.least
+        ),
+        _ => String::new(),
+    };
+    format!("{{{head}{rest}}}")
+}
+
+fn ran(answer: &Answer) -> String {
+    let e = &answer.estimate;
+    let p_local = if e.p_local < 0.0 {
+        "null".to_string()
+    } else {
+        format!("{:?}", e.p_local)
+    };
+    format!(
+        r#","c":{},"n":{},"longest_run":{},"k":{},"rounds":{},"p_global":{:?},"p_global_prime":{:?},"p_local":{p_local},"min_entropy":{:?}"#,
+        e.c,
+        e.n,
+        e.max_run_len,
+        answer.k,
+        answer.rounds,
+        e.p_global,
+        e.p_global_prime,
+        e.min_entropy
+    )
+}
+
+fn figure(rating: &Rating) -> String {
+    let figure = &rating.figure;
+    match figure.number {
+        0 => format!(
+            r#"{{"number":0,"bits_per_symbol":{:?},"estimator":{}}}"#,
+            figure.value,
+            quoted(ESTIMATORS[figure.which as usize - 1].name)
+        ),
+        number => format!(
+            r#"{{"number":{number},"bits_per_symbol":null,"estimator":null,"answer":{}}}"#,
+            quoted(meaning(number))
+        ),
+    }
+}
+
+/// A JSON string.
+fn quoted(text: &str) -> String {
+    let mut quoted = String::from("\"");
+    for letter in text.chars() {
+        match letter {
+            '"' | '\\' => quoted.extend(['\\', letter]),
+            control if (control as u32) < 32 => {
+                quoted += &format!("\\u{:04x}", control as u32);
+            }
+            other => quoted.push(other),
+        }
+    }
+    quoted + "\""
+}
+
+#[cfg(test)]
+mod tests {
+    use super::quoted;
+
+    #[test]
+    fn names_are_quoted() {
+        assert_eq!(quoted("a\"b\\c\n"), r#""a\"b\\c\u000a""#);
+    }
+}

@@ -1,0 +1,98 @@
+//! Rates the files side by side and prints them in the order given.
+
+use crate::arguments::Rate;
+use crate::progress::Progress;
+use crate::rate::{Lent, Rating, rate};
+use crate::{files, json, table};
+use std::collections::BTreeMap;
+use std::io::Write;
+use std::sync::atomic::{AtomicUsize, Ordering};
+use std::sync::mpsc::{Receiver, Sender, channel};
+
+type Rated = Result<Rating, String>;
+
+/// Rates every file; true if each of them has a board figure.
+pub fn rate_all(call: &Rate) -> bool {
+    let jobs = call.jobs.min(call.files.len());
+    let progress = Progress::new(call.files.len(), jobs);
+    let next = AtomicUsize::new(0);
+    let (done, ratings) = channel();
+    std::thread::scope(|scope| {
+        for job in 0..jobs {
+            let (progress, next, done) = (&progress, &next, done.clone());
+            scope.spawn(move || work(job, call, progress, next, &done));
+        }
+        drop(done);
+        print_in_order(call, &progress, ratings)
+    })
+}
+
+/// Takes one file after the other until none is left.
+fn work(
+    job: usize,
+    call: &Rate,
+    progress: &Progress,
+    next: &AtomicUsize,
+    done: &Sender<(usize, Rated)>,
+) {
+    let mut lent = Lent::new();
+    loop {
+        let i = next.fetch_add(1, Ordering::Relaxed);
+        let Some(file) = call.files.get(i) else {
+            return;
+        };
+        let started = |what: &str| progress.at(job, format!("{} ({what})", file.display()));
+        started("reading");
+        let rated = files::read(file).map(|capture| {
+            rate(
+                &capture.symbols,
+                capture.length,
+                call.width,
+                &mut lent,
+                started,
+            )
+        });
+        progress.done(job);
+        if done.send((i, rated)).is_err() {
+            return;
+        }
+    }
+}
+
+/// Prints each rating once all before it are printed; true if each has a figure.
+fn print_in_order(call: &Rate, progress: &Progress, ratings: Receiver<(usize, Rated)>) -> bool {
+    let mut waiting = BTreeMap::new();
+    let mut good = true;
+    let mut printed = 0;
+    for (i, rated) in ratings {
+        waiting.insert(i, rated);
+        while let Some(rated) = waiting.remove(&printed) {
+            progress.clear();
+            let file = call.files[printed].to_string_lossy();
+            good &= print(&file, &rated, call.json);
+            printed += 1;
+        }
+    }
+    progress.clear();
+    good
+}
+
+/// Prints one rating; true if it has a figure.
+fn print(file: &str, rated: &Rated, as_json: bool) -> bool {
+    let text = match rated {
+        Ok(rating) if as_json => json::text(file, rating),
+        Ok(rating) => table::text(file, rating),
+        Err(error) => {
+            eprintln!("abutfern: {file} {error}");
+            if as_json {
+                json::failure(file, error)
+            } else {
+                String::new()
+            }
+        }
+    };
+    if std::io::stdout().write_all(text.as_bytes()).is_err() {
+        std::process::exit(1);
+    }
+    rated.as_ref().is_ok_and(|rating| rating.figure.number == 0)
+}

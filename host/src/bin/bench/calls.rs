@@ -1,0 +1,182 @@
+//! The time of one call: the functions on floats, and the shared estimate on its worst input.
+
+use crate::clock;
+use abutfern::exported;
+use abutfern::random::Random;
+#[cfg(has_reference)]
+use abutfern::reference::prediction;
+use std::hint::black_box;
+
+const CALLS: usize = 4096;
+
+/// Prints what exists.
+pub fn print() {
+    let mut random = Random::new(1);
+    println!("\none call                                         ours         Rust   ratio");
+    let positive: Vec<f64> = (0..CALLS)
+        .map(|_| f64::from_bits(random.below(0x7ff0_0000_0000_0000)))
+        .collect();
+    let subnormal: Vec<f64> = positive
+        .iter()
+        .map(|x| f64::from_bits(x.to_bits() >> 12))
+        .collect();
+    let near_one: Vec<f64> = (0..CALLS).map(|_| 0.5 + random.unit()).collect();
+    let unit: Vec<f64> = (0..CALLS)
+        .map(|_| 1.0 / 256.0 + random.unit() * 255.0 / 256.0)
+        .collect();
+    one("sqrt", "", &positive, abutfern::sqrt, f64::sqrt);
+    one("sqrt", " subnormal", &subnormal, abutfern::sqrt, f64::sqrt);
+    one("ln", "", &positive, abutfern::ln, f64::ln);
+    one("ln", " near 1", &near_one, abutfern::ln, f64::ln);
+    one("ln", " subnormal", &subnormal, abutfern::ln, f64::ln);
+    for n in [3, 1_000, 134_217_728] {
+        let label = format!(" to the {n}");
+        let ours = move |x: f64| abutfern::power(x, n);
+        one("power", &label, &near_one, ours, move |x: f64| {
+            x.powf(black_box(n as f64))
+        });
+    }
+    let entropy = |p: f64| abutfern::min_entropy(p).value;
+    one("min_entropy", "", &unit, entropy, |p: f64| -p.log2());
+    closeness(&near_one);
+    one("empty", " loop", &positive, |x| x, |x| x);
+    estimate();
+}
+
+/// Prints the time of one function of a float.
+fn one(
+    name: &str,
+    label: &str,
+    inputs: &[f64],
+    ours: impl Fn(f64) -> f64,
+    rust: impl Fn(f64) -> f64,
+) {
+    if exported(name) || name == "empty" {
+        let title = format!("{name}{label}");
+        line(&title, each(inputs, ours), Some(each(inputs, rust)));
+    }
+}
+
+/// Seconds of one call, on the average of the inputs.
+fn each(inputs: &[f64], call: impl Fn(f64) -> f64) -> f64 {
+    let all = clock::best(|| {
+        for x in inputs {
+            black_box(call(black_box(*x)));
+        }
+    });
+    all / inputs.len() as f64
+}
+
+fn line(title: &str, ours: f64, rust: Option<f64>) {
+    print!("{title:<40} {:>9.1} ns", ours * 1e9);
+    match rust {
+        Some(rust) => println!(" {:>9.1} ns {:>7.3}", rust * 1e9, ours / rust),
+        None => println!("            -       -"),
+    }
+}
+
+#[cfg(has_reference)]
+fn closeness(inputs: &[f64]) {
+    if !exported("rel_epsilon_equal") {
+        return;
+    }
+    let (tiny, epsilon) = (f64::MIN_POSITIVE, f64::EPSILON);
+    let yes = |close: bool| f64::from(u8::from(close));
+    let ours = |x: f64| yes(abutfern::rel_epsilon_equal(x, 0.75, tiny, epsilon, 4));
+    let rust = |x: f64| yes(prediction::rel_epsilon_equal(x, 0.75, tiny, epsilon, 4));
+    line(
+        "rel_epsilon_equal",
+        each(inputs, ours),
+        Some(each(inputs, rust)),
+    );
+}
+
+#[cfg(not(has_reference))]
+fn closeness(_: &[f64]) {}
+
+/// Prints the estimate's longest time beside the Rust's longest, and the worst ratio.
+fn estimate() {
+    if !exported("prediction_estimate") {
+        return;
+    }
+    let times: Vec<Timed> = inputs().into_iter().map(timed).collect();
+    let by = |key: fn(&Timed) -> f64| times.iter().max_by(|a, b| key(a).total_cmp(&key(b)));
+    let ratio = |timed: &Timed| timed.ours / timed.rust.unwrap_or(f64::INFINITY);
+    let rusts = |timed: &Timed| timed.rust.unwrap_or(0.0);
+    let (Some(ours), Some(rust), Some(worst)) = (by(|timed| timed.ours), by(rusts), by(ratio))
+    else {
+        return;
+    };
+    line(
+        "prediction_estimate, each one's slowest",
+        ours.ours,
+        rust.rust,
+    );
+    for (title, timed) in [("our slowest input", ours), ("worst ratio", worst)] {
+        line(
+            &format!("prediction_estimate, {title}"),
+            timed.ours,
+            timed.rust,
+        );
+        println!("    at C, N, run, k = {:?}", timed.input);
+    }
+}
+
+/// The seconds of one estimate.
+struct Timed {
+    input: [u64; 4],
+    ours: f64,
+    rust: Option<f64>,
+}
+
+fn timed(input: [u64; 4]) -> Timed {
+    let [c, n, run, k] = input;
+    let ours = quick(|| {
+        black_box(abutfern::prediction_estimate(c, n, run, k));
+    });
+    Timed {
+        input,
+        ours,
+        rust: rust_estimate(c, n, run, k),
+    }
+}
+
+/// Seconds of the quickest of some calls.
+fn quick(mut call: impl FnMut()) -> f64 {
+    let times = (0..15).map(|_| {
+        let start = std::time::Instant::now();
+        call();
+        start.elapsed().as_secs_f64()
+    });
+    times.fold(f64::INFINITY, f64::min)
+}
+
+#[cfg(has_reference)]
+fn rust_estimate(c: u64, n: u64, run: u64, k: u64) -> Option<f64> {
+    Some(quick(|| {
+        black_box(prediction::prediction_estimate(c, n, run, k));
+    }))
+}
+
+#[cfg(not(has_reference))]
+fn rust_estimate(_: u64, _: u64, _: u64, _: u64) -> Option<f64> {
+    None
+}
+
+/// Counts of every size, the runs short, usual and long.
+fn inputs() -> Vec<[u64; 4]> {
+    let mut inputs = Vec::new();
+    for n in [40, 4_033, 100_000, 999_998, 8_000_000, 134_217_728] {
+        for part in [0, 1, 16, 64, 128, 192, 240, 255] {
+            let c = n * part / 256;
+            let p = (part as f64 / 256.0).clamp(0.004, 0.996);
+            let usual = ((n as f64).ln() / -p.ln()) as u64;
+            for run in [1, usual / 2, usual, usual * 2, c / 16, c] {
+                for k in [2, 256] {
+                    inputs.push([c, n, run.clamp(c.min(1), c), k]);
+                }
+            }
+        }
+    }
+    inputs
+}

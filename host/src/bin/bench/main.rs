@@ -1,0 +1,146 @@
+//! The benchmark: the library's time over the Rust's in the same run, and how the library's time
+//! grows with the capture.
+
+mod calls;
+mod clock;
+mod track;
+
+use abutfern::exported;
+use abutfern::shapes::{Shape, capture, draws};
+use std::process::ExitCode;
+use track::{Lent, TRACKS, Track};
+
+const HELP: &str = "\
+bench: the library's time beside the Rust's, both built for release
+
+  bench [--symbols N] [--grow]
+
+  --symbols N   symbols in a capture (default 1000000)
+  --grow        the library's time for 10,000 to 16,777,216 symbols instead
+
+The best of several repeats is printed. The output and the work space are lent by the benchmark;
+the Rust allocates its own in each call.
+";
+
+/// A capture to measure on.
+pub struct Capture {
+    pub name: &'static str,
+    pub symbols: Vec<u8>,
+    pub width: u8,
+}
+
+/// The captures over which the worst ratio is taken.
+const CAPTURES: [(&str, Shape, usize, u8); 5] = [
+    ("uniform 8-bit", Shape::Uniform, 256, 8),
+    ("uniform 4-bit", Shape::Uniform, 16, 4),
+    ("uniform 1-bit", Shape::Uniform, 2, 1),
+    ("biased 8-bit", Shape::Biased, 256, 8),
+    ("sticky 8-bit", Shape::Sticky, 256, 8),
+];
+
+const LENGTHS: [usize; 4] = [10_000, 100_000, 1_000_000, 16_777_216];
+
+fn main() -> ExitCode {
+    let (mut symbols, mut grow) = (1_000_000, false);
+    let mut words = std::env::args().skip(1);
+    while let Some(word) = words.next() {
+        let mut number = || words.next().and_then(|word| word.parse().ok());
+        match word.as_str() {
+            "--grow" => grow = true,
+            "--symbols" => match number() {
+                Some(number) => symbols = number,
+                None => return help(2),
+            },
+            "--help" | "-h" => return help(0),
+            _ => return help(2),
+        }
+    }
+    if grow {
+        growth();
+    } else {
+        ratios(symbols);
+        calls::print();
+    }
+    ExitCode::SUCCESS
+}
+
+fn help(status: u8) -> ExitCode {
+    print!("{HELP}");
+    ExitCode::from(status)
+}
+
+fn captures(length: usize) -> Vec<Capture> {
+    let made = CAPTURES
+        .iter()
+        .zip(1..)
+        .map(|((name, shape, values, width), seed)| Capture {
+            name,
+            symbols: capture(*shape, *values, length, draws(seed * 1_000_003)),
+            width: *width,
+        });
+    made.collect()
+}
+
+/// One line for each track and capture, and the worst ratio of each track.
+fn ratios(length: usize) {
+    let captures = captures(length);
+    let mut lent = Lent::new(length);
+    println!("{length} symbols                              ours         Rust   ratio");
+    for track in TRACKS.iter().filter(|track| exported(track.name)) {
+        let mut worst = 0.0f64;
+        for capture in captures.iter().filter(|capture| (track.takes)(capture)) {
+            let ratio = line(track, capture, &mut lent);
+            worst = worst.max(ratio.unwrap_or(0.0));
+        }
+        if worst > 0.0 {
+            println!("{:<22} worst {worst:>37.3}", track.title);
+        }
+    }
+}
+
+fn line(track: &Track, capture: &Capture, lent: &mut Lent) -> Option<f64> {
+    let ours = clock::best(|| (track.ours)(capture, lent));
+    print!(
+        "{:<22} {:<14} {}",
+        track.title,
+        capture.name,
+        milliseconds(ours)
+    );
+    let Some(rust) = track.rust(capture) else {
+        println!("            -       -");
+        return None;
+    };
+    println!(" {} {:>7.3}", milliseconds(rust), ours / rust);
+    Some(ours / rust)
+}
+
+fn milliseconds(seconds: f64) -> String {
+    format!("{:>9.3} ms", seconds * 1e3)
+}
+
+/// Nanoseconds per symbol at each length: a level row is linear growth.
+fn growth() {
+    print!("nanoseconds per symbol                ");
+    for length in LENGTHS {
+        print!("{length:>12}");
+    }
+    println!();
+    let most = LENGTHS[LENGTHS.len() - 1];
+    let captures = captures(most);
+    let mut lent = Lent::new(most);
+    for track in TRACKS.iter().filter(|track| exported(track.name)) {
+        for capture in captures.iter().filter(|capture| (track.takes)(capture)) {
+            print!("{:<22} {:<15}", track.title, capture.name);
+            for length in LENGTHS {
+                let part = Capture {
+                    name: capture.name,
+                    symbols: capture.symbols[..length].to_vec(),
+                    width: capture.width,
+                };
+                let seconds = clock::best(|| (track.ours)(&part, &mut lent));
+                print!("{:>12.2}", seconds * 1e9 / length as f64);
+            }
+            println!();
+        }
+    }
+}

@@ -1,0 +1,100 @@
+//! The judge: runs the proved library beside the Rust that it was ported from, and says what
+//! differs.
+
+mod arguments;
+#[cfg(has_reference)]
+mod board;
+#[cfg(has_reference)]
+mod capture;
+#[cfg(has_reference)]
+mod captures;
+#[cfg(has_reference)]
+mod counters;
+#[cfg(has_reference)]
+mod estimate;
+#[cfg(has_reference)]
+mod exact;
+#[cfg(has_reference)]
+mod families;
+#[cfg_attr(not(has_reference), allow(dead_code))]
+mod floats;
+#[cfg(has_reference)]
+mod lent;
+#[cfg(has_reference)]
+mod mcw;
+#[cfg(has_reference)]
+mod mmc;
+#[cfg(has_reference)]
+mod plain;
+#[cfg(has_reference)]
+mod prediction;
+#[cfg(has_reference)]
+mod real;
+mod replay;
+#[cfg(has_reference)]
+mod rules;
+#[cfg(has_reference)]
+mod space;
+#[cfg_attr(not(has_reference), allow(dead_code))]
+mod tally;
+
+use arguments::Arguments;
+use std::process::ExitCode;
+
+fn main() -> ExitCode {
+    let arguments = match arguments::read(std::env::args().skip(1)) {
+        Ok(Some(arguments)) => arguments,
+        Ok(None) => {
+            print!("{}", arguments::HELP);
+            return ExitCode::SUCCESS;
+        }
+        Err(error) => {
+            eprintln!("judge: {error}; judge --help says how to call it");
+            return ExitCode::from(2);
+        }
+    };
+    match judged(&arguments) {
+        Ok(Some(0)) => {
+            println!("judge: 0 differ");
+            ExitCode::SUCCESS
+        }
+        Ok(Some(differ)) => {
+            println!("judge: {differ} differ");
+            ExitCode::FAILURE
+        }
+        Ok(None) => {
+            println!("judge: nothing was compared");
+            ExitCode::SUCCESS
+        }
+        Err(error) => {
+            eprintln!("judge: {error}");
+            ExitCode::from(2)
+        }
+    }
+}
+
+/// How many differ in what was asked for; None if there was nothing to compare.
+fn judged(arguments: &Arguments) -> Result<Option<u64>, String> {
+    if arguments.replay.is_empty() {
+        return compared(arguments);
+    }
+    let mut differ = 0;
+    for path in &arguments.replay {
+        differ += replay::judge(path)?;
+    }
+    Ok(Some(differ))
+}
+
+#[cfg(has_reference)]
+fn compared(arguments: &Arguments) -> Result<Option<u64>, String> {
+    families::judge(arguments)
+}
+
+#[cfg(not(has_reference))]
+fn compared(_: &Arguments) -> Result<Option<u64>, String> {
+    println!(
+        "judge: left out: the Rust's sources were not at hand when this was built \
+         (ABUTFERN_REFERENCE names their folder)"
+    );
+    Ok(None)
+}

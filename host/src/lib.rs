@@ -1,0 +1,156 @@
+//! Abutfern for Rust: safe bindings of the proved library. Every capture, width, count and lent
+//! slice gets an answer; what cannot be done is refused by number (see [`numbers`]), with all lent
+//! memory unchanged.
+
+pub mod ffi;
+pub mod numbers;
+pub mod random;
+pub mod shapes;
+
+#[cfg(has_reference)]
+pub mod steps;
+
+#[cfg(has_reference)]
+pub extern crate reference;
+
+pub use ffi::{Alphabet, Answer, BitRead, Estimate, Figure, Solved, Value, exported};
+
+impl Answer {
+    /// Every field as a word, floats by their bits: equal words are equal answers.
+    pub fn words(&self) -> [u64; 11] {
+        let e = &self.estimate;
+        let floats = [e.p_global, e.p_global_prime, e.p_local, e.min_entropy];
+        let [p_global, p_global_prime, p_local, min_entropy] = floats.map(f64::to_bits);
+        [
+            self.number,
+            self.place,
+            self.k,
+            self.rounds,
+            e.c,
+            e.n,
+            e.max_run_len,
+            p_global,
+            p_global_prime,
+            p_local,
+            min_entropy,
+        ]
+    }
+}
+
+// Each call below passes the pointer and length of one slice that outlives it, so all are sound:
+// the library reads and writes nothing else, and its functions take every value.
+
+/// Bit `i` of a capture: answers 0, 1, 2, 3.
+pub fn bit(symbols: &[u8], width: u8, i: u64) -> BitRead {
+    unsafe { ffi::abutfern_bit(symbols.as_ptr(), symbols.len(), width, i) }
+}
+
+/// Numbers the symbols by first sight into `out`: answers 0, 1, 2.
+pub fn dense_alphabet(symbols: &[u8], out: &mut [u8]) -> Alphabet {
+    unsafe {
+        ffi::abutfern_dense_alphabet(symbols.as_ptr(), symbols.len(), out.as_mut_ptr(), out.len())
+    }
+}
+
+/// Numbers the symbols in rising order into `out`: answers 0, 1, 2.
+pub fn value_sorted_alphabet(symbols: &[u8], out: &mut [u8]) -> Alphabet {
+    unsafe {
+        let (out, length) = (out.as_mut_ptr(), out.len());
+        ffi::abutfern_value_sorted_alphabet(symbols.as_ptr(), symbols.len(), out, length)
+    }
+}
+
+/// Whether two floats are close, absolutely, relatively or by units in the last place.
+pub fn rel_epsilon_equal(a: f64, b: f64, max_abs: f64, max_rel: f64, max_ulp: u64) -> bool {
+    unsafe { ffi::abutfern_rel_epsilon_equal(a, b, max_abs, max_rel, max_ulp) }
+}
+
+/// The square root, rounded correctly.
+pub fn sqrt(x: f64) -> f64 {
+    unsafe { ffi::abutfern_sqrt(x) }
+}
+
+/// The natural logarithm.
+pub fn ln(x: f64) -> f64 {
+    unsafe { ffi::abutfern_ln(x) }
+}
+
+/// A whole-number power, by halving the exponent.
+pub fn power(x: f64, n: u64) -> f64 {
+    unsafe { ffi::abutfern_power(x, n) }
+}
+
+/// The min-entropy of a largest probability in 1/256..1: answers 0, 5.
+pub fn min_entropy(p: f64) -> Value {
+    unsafe { ffi::abutfern_min_entropy(p) }
+}
+
+/// The function whose root p_local is: answers 0, 4, 5.
+pub fn prediction_estimate_function(p: f64, max_run_len: u64, n: u64) -> Value {
+    unsafe { ffi::abutfern_prediction_estimate_function(p, max_run_len, n) }
+}
+
+/// p_local by bisection over `ldomain`..1: answers 0, 4, 5.
+pub fn calc_p_local(max_run_len: u64, n: u64, ldomain: f64) -> Solved {
+    unsafe { ffi::abutfern_calc_p_local(max_run_len, n, ldomain) }
+}
+
+/// The shared estimate from counts and the alphabet's size: answers 0, 4.
+pub fn prediction_estimate(c: u64, n: u64, max_run_len: u64, k: u64) -> Answer {
+    unsafe { ffi::abutfern_prediction_estimate(c, n, max_run_len, k) }
+}
+
+/// MultiMCW on the bitstring track: answers 0, 1, 6, 3.
+pub fn multi_mcw(symbols: &[u8], bits_per_symbol: u8) -> Answer {
+    unsafe { ffi::abutfern_multi_mcw(symbols.as_ptr(), symbols.len(), bits_per_symbol) }
+}
+
+/// MultiMCW on the literal track: answers 0, 1, 6, 2. `out` takes the translated capture.
+pub fn multi_mcw_literal(symbols: &[u8], out: &mut [u8]) -> Answer {
+    unsafe {
+        let (out, length) = (out.as_mut_ptr(), out.len());
+        ffi::abutfern_multi_mcw_literal(symbols.as_ptr(), symbols.len(), out, length)
+    }
+}
+
+/// MultiMMC on the bitstring track: answers 0, 1, 6, 2, 3. `counters` takes the counts.
+pub fn multi_mmc(symbols: &[u8], bits_per_symbol: u8, counters: &mut [u32]) -> Answer {
+    unsafe {
+        ffi::abutfern_multi_mmc(
+            symbols.as_ptr(),
+            symbols.len(),
+            bits_per_symbol,
+            counters.as_mut_ptr(),
+            counters.len(),
+        )
+    }
+}
+
+/// MultiMMC on the literal track: answers 0, 1, 6, 2. `out` takes the translated capture.
+pub fn multi_mmc_literal(symbols: &[u8], out: &mut [u8], space: &mut [u32]) -> Answer {
+    unsafe {
+        ffi::abutfern_multi_mmc_literal(
+            symbols.as_ptr(),
+            symbols.len(),
+            out.as_mut_ptr(),
+            out.len(),
+            space.as_mut_ptr(),
+            space.len(),
+        )
+    }
+}
+
+/// The smallest of the estimates that ran, in bits per symbol, and the estimator that gave it.
+/// The answers stand in the order MultiMCW bits, MultiMCW literal, MultiMMC bits, MultiMMC literal.
+pub fn board_figure(answers: &[Answer; 4], bits_per_symbol: u8) -> Figure {
+    let [mcw_bits, mcw_literal, mmc_bits, mmc_literal] = *answers;
+    unsafe {
+        ffi::abutfern_board_figure(
+            mcw_bits,
+            mcw_literal,
+            mmc_bits,
+            mmc_literal,
+            bits_per_symbol,
+        )
+    }
+}

@@ -1,0 +1,39 @@
+//! The limits of document 01 and the answer numbers in words.
+
+/// The most symbols a capture may have.
+pub const SYMBOL_LIMIT: usize = 16_777_216;
+/// The most predictions that the estimate takes.
+pub const PREDICTION_LIMIT: u64 = 134_217_728;
+/// The least number of samples for MultiMCW.
+pub const MCW_SAMPLES: usize = 4_096;
+/// The least number of samples for MultiMMC.
+pub const MMC_SAMPLES: usize = 4;
+/// The counters that MultiMMC on bits needs.
+pub const COUNTERS: usize = 262_140;
+/// The numbers that MultiMMC on more than two values needs.
+pub const SPACE: usize = 16_777_216;
+/// The levels of MultiMMC.
+pub const LEVELS: usize = 16;
+/// The most distinct pairs that a level of MultiMMC counts.
+pub const PAIR_CAP: usize = 100_000;
+/// The most rounds of the bisection.
+pub const ROUND_LIMIT: u64 = 1_076;
+
+/// The width that a given one stands for.
+pub fn clamped(width: u8) -> u8 {
+    width.clamp(1, 8)
+}
+
+/// An answer number in words.
+pub fn meaning(number: u64) -> &'static str {
+    match number {
+        0 => "done",
+        1 => "the capture has more than 16,777,216 symbols",
+        2 => "a lent buffer is too short, or a bit past the end was asked for",
+        3 => "the width is 1 and a symbol is above 1",
+        4 => "counts that cannot be",
+        5 => "a probability or an entropy is outside its range",
+        6 => "not run: too few samples",
+        _ => "a number that document 01 does not give",
+    }
+}
