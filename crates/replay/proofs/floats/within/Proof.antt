@@ -1,0 +1,18 @@
+-- `replay::floats::within` meets its contract: the second difference counts only where the first is small enough. Assumes nothing.
+use mathlib.Core.Path.{_≡_, sym, ap}
+use mathlib.Core.Bool.{Bool, _&&_}
+use lib.Ieee.{binary64, le, sub}
+use Rattle.replay.specs.Near.{within}
+use Rattle.replay.proofs.floats.within.Statement.{statement}
+use Rattle.replay.proofs.floats.within.Tie as tie
+
+returns : tie.Need-returns
+unfolding within
+returns c = let a = c .before .args in ap (λ (b : Bool). b && le (sub binary64 (a .y) (a .x)) (a .most)) (sym (c .if1 .taken))
+
+returns-2 : tie.Need-returns-2
+unfolding within
+returns-2 c = let a = c .before .args in ap (λ (b : Bool). b && le (sub binary64 (a .y) (a .x)) (a .most)) (sym (c .if1 .left))
+
+pub within-spec : {M : Type 1} → statement M
+within-spec = tie.close (tie.spec returns returns-2)
