@@ -2,9 +2,8 @@
 use Prim.Native.Nat.{ℕ, _-_}
 use mathlib.Core.List.{List}
 use lib.ListN.{getD, length}
-use Rattle.race.specs.Race.{Event, events, hits, longest}
+use Rattle.race.specs.Race.{Event, events, hits, longest, runAfter}
 use Rattle.race.specs.declared.Tally.{Tally}
-use Rattle.race.proofs.Trace.{runAfter}
 use Rattle.mmc_bits.specs.Levels.{firstPlace}
 use Rattle.mmc_bits.specs.Guesses.{guess}
 

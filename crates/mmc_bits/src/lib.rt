@@ -1,4 +1,4 @@
 // MultiMMC on bits (SP 800-90B 6.3.9): sixteen levels count which bit followed their contexts, and race.
-pub mod place;
+mod place;
 pub mod run;
-pub mod step;
+mod step;

@@ -14,9 +14,9 @@ use prediction::estimate::prediction_estimate;
 ghost use mathlib.Core.Path.{_≡_};
 ghost use Rattle.multi_mcw.specs.Tracks.{mcwBits, mcwLiteral, mcwLiteralOutput};
 
-pub mod bits;
-pub mod literal;
-pub mod say;
+mod bits;
+mod literal;
+mod say;
 
 // The windows' sizes, shortest first.
 pub const FIRST: usize = 63;

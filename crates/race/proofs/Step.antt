@@ -5,10 +5,10 @@ use Prim.Native.Nat.{ℕ, suc, _+_, _≤_, _<_, max}
 use native.Mathlib.Omega.{arith}
 use native.Mathlib.Numerals.{add-one}
 use lib.ListN.{length, getD, replicate}
-use Rattle.race.specs.Race.{Guess, silent, judge, Standing, scored, Event, verdictOf, hitOf, hits, longest, standing, event, events}
+use Rattle.race.specs.Race.{Guess, silent, judge, Standing, scored, Event, verdictOf, hitOf, hits, longest, standing, event, events, runAfter}
 use Rattle.race.specs.Held.{silence, heardFrom, after, tallied, counterLimit, Countable, Scorable}
 use Rattle.race.specs.declared.Tally.{Tally}
-use Rattle.race.proofs.Trace.{hits-append, hits-le, runAfter, runAfter-snoc, runAfter-le, runAfter-le-longest, longest-snoc}
+use Rattle.race.proofs.Trace.{hits-append, hits-le, runAfter-snoc, runAfter-le, runAfter-le-longest, longest-snoc}
 use Rattle.race.proofs.Standing.{scored-ext, scored-silent, standing-length, standing-winner, standing-le, events-length}
 
 -- the counts and the standing that the code holds after n places

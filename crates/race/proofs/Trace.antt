@@ -7,7 +7,7 @@ use native.Mathlib.Omega.{arith}
 use lib.Dec.{leb}
 use lib.ListN.{length}
 use borrow.Author.Tests.{leb-true, leb-false}
-use Rattle.race.specs.Race.{Verdict, hit, miss, none, Event, verdictOf, hitOf, runOf, hits, stretch, longest}
+use Rattle.race.specs.Race.{Verdict, hit, miss, none, Event, verdictOf, hitOf, runOf, hits, stretch, longest, runAfter}
 use Rattle.race.proofs.Cases.{tested}
 
 abbrev pub missOf : Verdict → ℕ
@@ -132,11 +132,6 @@ longest-found (e ∷ es) =
     rest : Stretch es (longest es) → stretch (e ∷ es) < longest es → Stretch (e ∷ es) (longest (e ∷ es))
     rest o l =
         record { earlier = e ∷ o .earlier; within = o .within; later = o .later; whole = ap (λ (q : List Event). e ∷ q) (o .whole); no-miss = o .no-miss; count = omega (arith, o .count) }
-
--- the hits since the last miss, read from the left
-unfoldable pub runAfter : ℕ → List Event → ℕ
-runAfter r [] = r
-runAfter r (e ∷ es) = runAfter (runOf (verdictOf e) r) es
 
 pub runAfter-snoc : (r : ℕ) (es : List Event) (e : Event) → runAfter r (es ++ (e ∷ [])) ≡ runOf (verdictOf e) (runAfter r es)
 unfolding runAfter

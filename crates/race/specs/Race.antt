@@ -77,6 +77,11 @@ unfoldable pub longest : List Event → ℕ
 longest [] = 0
 longest (e ∷ es) = max (stretch (e ∷ es)) (longest es)
 
+-- the run that the events leave of a run of r: the hits since the last miss
+unfoldable pub runAfter : ℕ → List Event → ℕ
+runAfter r [] = r
+runAfter r (e ∷ es) = runAfter (runOf (verdictOf e) r) es
+
 -- m sub-predictors run from the place `first`: guess i j is what sub-predictor j says of place i, and truth i is what comes there
 module _ (m first : ℕ) (guess : ℕ → ℕ → Guess) (truth : ℕ → ℕ) where
   -- the standing after n places: the first sub-predictor is the first winner, and "scores start at 0"
