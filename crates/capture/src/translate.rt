@@ -62,7 +62,7 @@ fn number_by_sight(symbols: &[u8], out: &mut [u8]) -> u64
 }
 
 // Marks the values that stand in the capture.
-fn mark(symbols: &[u8], marks: &mut [u16; 256])
+fn mark(symbols: &[u8], marks: &mut [u8; 256])
     requires { ⌜ now marks ≡ replicate 256 0 ⌝ }
     ensures { λ _. ⌜ Holds (markIn (now (symbols .entry))) (now (marks .exit)) ⌝ }
 {
@@ -74,7 +74,7 @@ fn mark(symbols: &[u8], marks: &mut [u16; 256])
 }
 
 // Gives each marked value its number in rising order. Returns how many there are.
-fn number_rising(marks: &mut [u16; 256]) -> u64
+fn number_rising(marks: &mut [u8; 256]) -> u64
     requires { ⌜ (length (now marks) ≡ 256) × ((v : ℕ) → getD (now marks) v 0 ≤ 1) ⌝ }
     ensures { λ r. ⌜ (r ≡ sumBelow (now (marks .entry)) 256) × Holds (sumBelow (now (marks .entry))) (now (marks .exit)) ⌝ }
 {
@@ -82,8 +82,8 @@ fn number_rising(marks: &mut [u16; 256]) -> u64
     let mut v: usize = 0;
     while v < 256 {
         let here = marks[v];
-        marks[v] = next;
-        next += here;
+        marks[v] = next as u8;
+        next += here as u16;
         v += 1;
     }
     next as u64
@@ -93,19 +93,19 @@ fn number_rising(marks: &mut [u16; 256]) -> u64
 pub fn alphabet_size(symbols: &[u8]) -> u64
     ensures { λ r. ⌜ r ≡ distinct (now (symbols .entry)) ⌝ }
 {
-    let mut marks = [0u16; 256];
+    let mut marks = [0u8; 256];
     mark(symbols, &mut marks);
     number_rising(&mut marks)
 }
 
 // Translates each symbol by its number.
-fn renumber(symbols: &[u8], numbers: &[u16; 256], out: &mut [u8])
+fn renumber(symbols: &[u8], numbers: &[u8; 256], out: &mut [u8])
     requires { ⌜ (length (now symbols) ≤ length (now out)) × Holds (rising (now symbols)) (now numbers) ⌝ }
     ensures { λ _. ⌜ now (out .exit) ≡ written (sorted (now (symbols .entry))) (now (out .entry)) ⌝ }
 {
     let mut i: usize = 0;
     while i < symbols.len() {
-        out[i] = numbers[wide(symbols[i])] as u8;
+        out[i] = numbers[wide(symbols[i])];
         i += 1;
     }
 }
@@ -115,7 +115,7 @@ fn number_by_value(symbols: &[u8], out: &mut [u8]) -> u64
     requires { ⌜ length (now symbols) ≤ length (now out) ⌝ }
     ensures { λ r. ⌜ (r ≡ distinct (now (symbols .entry))) × (now (out .exit) ≡ written (sorted (now (symbols .entry))) (now (out .entry))) ⌝ }
 {
-    let mut numbers = [0u16; 256];
+    let mut numbers = [0u8; 256];
     mark(symbols, &mut numbers);
     let size = number_rising(&mut numbers);
     renumber(symbols, &numbers, out);

@@ -25,9 +25,6 @@ shared-slice-read-wide c = omega arith
 wide-requires : tie.Need-wide-requires Inv-loop μ-loop
 wide-requires c κs = search needs
 
-mul-marks : tie.Need-mul-marks Inv-loop μ-loop
-mul-marks c = omega (arith, c .wide .ensures, c .before .shared-slice-known2 .given (c .before .before .before .loop .i))
-
 element-write-marks : tie.Need-element-write-marks Inv-loop μ-loop
 element-write-marks c = omega (arith, c .wide .ensures, c .before .shared-slice-known2 .given (c .before .before .before .loop .i))
 
@@ -53,7 +50,6 @@ mark-spec =
     loop-holds
     shared-slice-read-wide
     wide-requires
-    mul-marks
     element-write-marks
     add-i
     loop-less

@@ -10,10 +10,6 @@ use native.Mathlib.Omega.{arith}
 use lib.ListN.{length, take, getD, set}
 use Rattle.capture.proofs.translate.number_by_sight.Statement.{statement}
 use Rattle.capture.proofs.translate.number_by_sight.Tie as tie
-use Rattle.capture.proofs.translate.number_by_sight.Reads as reads
-use Rattle.capture.proofs.translate.number_by_sight.Lts as lts
-use Rattle.capture.proofs.translate.enter.Reads as enter-reads
-use Rattle.capture.proofs.translate.wide.Reads as wide-reads
 
 abbrev Inv-loop : tie.InvT-loop
 Inv-loop symbols out₀ numbers₀ next₀ i₀ out numbers next i = (i ≤ length symbols) × (length symbols ≤ length out₀) × Entered (take i symbols) numbers next × (out ≡ partly (firstSight symbols) symbols i out₀)

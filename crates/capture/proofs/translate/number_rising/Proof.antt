@@ -8,8 +8,6 @@ use native.Mathlib.Omega.{arith}
 use lib.ListN.{length, take, getD, set}
 use Rattle.capture.proofs.translate.number_rising.Statement.{statement}
 use Rattle.capture.proofs.translate.number_rising.Tie as tie
-use Rattle.capture.proofs.translate.number_rising.Reads as reads
-use Rattle.capture.proofs.translate.number_rising.Lts as lts
 
 abbrev Inv-loop : tie.InvT-loop
 Inv-loop marks₀ next₀ v₀ marks next v = (v ≤ 256) × (next ≡ sumBelow marks₀ v) × (next ≤ v) × Summed marks₀ v marks
@@ -20,17 +18,17 @@ abbrev μ-loop : tie.MeasureT-loop
 loop-holds : tie.Need-loop-holds Inv-loop μ-loop
 loop-holds c = (omega arith, sym (sum-none (c .args .marks .now)), omega arith, summed-start (c .args .marks .now) (c .pre .0))
 
-mul-here : tie.Need-mul-here Inv-loop μ-loop
-mul-here c = omega arith
-
 element-copy-out-here : tie.Need-element-copy-out-here Inv-loop μ-loop
 element-copy-out-here c = omega arith
 
-mul-marks : tie.Need-mul-marks Inv-loop μ-loop
-mul-marks c = omega arith
+cast-marks : tie.Need-cast-marks Inv-loop μ-loop
+cast-marks c = omega arith
 
 element-write-marks : tie.Need-element-write-marks Inv-loop μ-loop
 element-write-marks c = omega arith
+
+cast-next : tie.Need-cast-next Inv-loop μ-loop
+cast-next c = omega (arith, c .before .before .loop .inv .3 .left (c .before .before .loop .v) (omega arith), c .before .before .before .pre .1 (c .before .before .loop .v))
 
 add-next : tie.Need-add-next Inv-loop μ-loop
 add-next c = omega (arith, c .before .before .loop .inv .3 .left (c .before .before .loop .v) (omega arith), c .before .before .before .pre .1 (c .before .before .loop .v))
@@ -64,10 +62,10 @@ number-rising-spec =
     Inv-loop
     μ-loop
     loop-holds
-    mul-here
     element-copy-out-here
-    mul-marks
+    cast-marks
     element-write-marks
+    cast-next
     add-next
     add-v
     loop-less

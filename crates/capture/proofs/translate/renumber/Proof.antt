@@ -3,15 +3,12 @@ use Rattle.capture.specs.Alphabet.{rising}
 use Rattle.capture.proofs.Writing.{partly, partly-start, partly-step, partly-end, partly-length}
 use Prim.Native.Nat.{_≤_, _-_}
 use mathlib.Core.Path.{_≡_, refl, ap, _∙_}
-use Rattle.capture.proofs.Tables.{rising-at, rising-small}
+use Rattle.capture.proofs.Tables.{rising-at}
 use borrow.Author.Needs.{needs}
 use native.Mathlib.Omega.{arith}
 use lib.ListN.{length, take, getD, set}
 use Rattle.capture.proofs.translate.renumber.Statement.{statement}
 use Rattle.capture.proofs.translate.renumber.Tie as tie
-use Rattle.capture.proofs.translate.renumber.Reads as reads
-use Rattle.capture.proofs.translate.renumber.Lts as lts
-use Rattle.capture.proofs.translate.wide.Reads as wide-reads
 
 abbrev Inv-loop : tie.InvT-loop
 Inv-loop symbols numbers out₀ i₀ out i = (i ≤ length symbols) × (out ≡ partly (rising symbols) symbols i out₀)
@@ -28,15 +25,8 @@ shared-slice-read-wide c = omega arith
 wide-requires : tie.Need-wide-requires Inv-loop μ-loop
 wide-requires c κs = search needs
 
-mul-out : tie.Need-mul-out Inv-loop μ-loop
-mul-out c = omega (arith, c .wide .ensures, c .before .shared-slice-known2 .given (c .before .before .before .loop .i))
-
 element-copy-out-out : tie.Need-element-copy-out-out Inv-loop μ-loop
 element-copy-out-out c = omega (arith, c .wide .ensures, c .before .shared-slice-known2 .given (c .before .before .before .loop .i))
-
-cast-out : tie.Need-cast-out Inv-loop μ-loop
-cast-out c =
-    omega (arith, rising-at (c .before .before .before .before .before .before .before .args .symbols .now) (c .before .before .before .before .loop .i) (c .before .wide .ensures) (omega (arith, c .before .wide .ensures, c .before .before .shared-slice-known2 .given (c .before .before .before .before .loop .i))) (c .before .before .before .before .before .before .before .pre .1), rising-small (c .before .before .before .before .before .before .before .args .symbols .now) (getD (c .before .before .before .before .before .before .before .args .symbols .now) (c .before .before .before .before .loop .i) 0) (omega (arith, c .before .wide .ensures, c .before .before .shared-slice-known2 .given (c .before .before .before .before .loop .i))))
 
 slice-write-out : tie.Need-slice-write-out Inv-loop μ-loop
 slice-write-out c = omega (arith, ap length (c .before .before .before .before .loop .inv .1), partly-length (rising (c .before .before .before .before .before .before .before .args .symbols .now)) (c .before .before .before .before .before .before .before .args .symbols .now) (c .before .before .before .before .before .before .before .args .out .now) (c .before .before .before .before .loop .i) (omega arith) (omega arith))
@@ -71,9 +61,7 @@ renumber-spec =
     loop-holds
     shared-slice-read-wide
     wide-requires
-    mul-out
     element-copy-out-out
-    cast-out
     slice-write-out
     add-i
     loop-less
