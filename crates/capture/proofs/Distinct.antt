@@ -7,7 +7,6 @@ use native.Mathlib.Decide.{ℕ-discrete}
 use Prim.Native.Nat.{ℕ, zero, suc, _+_, _≤_, _<_}
 use native.Mathlib.Nat.{eq-or-lt-of-le, le-of-suc-le-suc}
 use native.Mathlib.Omega.{arith}
-use lib.ListN.{length}
 use Rattle.capture.specs.Alphabet.{has, one, distinct, distinctBelow}
 use Rattle.capture.proofs.Membership.{has-append, snoc-same, snoc-other}
 

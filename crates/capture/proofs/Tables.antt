@@ -1,6 +1,6 @@
 -- A table of 256 numbers, one for each value, as it is filled. Assumes nothing.
 use mathlib.Core.Path.{_≡_, refl, ap, sym, subst, _∙_}
-use mathlib.Core.Bool.{Bool, true, false, cond}
+use mathlib.Core.Bool.{Bool, true, false}
 use mathlib.Core.List.{List, [], _∷_, _++_}
 use Prim.Native.Nat.{ℕ, zero, suc, _+_, _≤_, _<_}
 use native.Mathlib.Nat.{lt-of-not-le}
@@ -46,10 +46,27 @@ take-next s i l = ap (λ (n : ℕ). take n s) (add-one i) ∙ take-suc s i 0 l
 pub holds-all : (f : List ℕ → ℕ → ℕ) (s : List ℕ) (i : ℕ) {m : List ℕ} → length s ≤ i → Holds (f (take i s)) m → Holds (f s) m
 holds-all f s i {m} l h = subst (λ (t : List ℕ). Holds (f t) m) (take-all i s l) h
 
--- the symbol x at place i is marked, as the code does it
-pub marks-next : (s : List ℕ) (i : ℕ) {m : List ℕ} {x : ℕ} → i < length s → x ≡ getD s i 0 → x < 256 → Holds (markIn (take i s)) m → Holds (markIn (take (i + 1) s)) (set m x 1)
-marks-next s i {m} {x} l e b h =
-    subst (λ (t : List ℕ). Holds (markIn t) (set m x 1)) (sym (take-next s i l ∙ ap (λ (y : ℕ). take i s ++ (y ∷ [])) (sym e))) (marks-step (take i s) x b h)
+-- x is the symbol at place i
+pub record SymbolAt (s : List ℕ) (i x : ℕ) : Type 0 where
+  pub inside : i < length s
+  pub here : x ≡ getD s i 0
+  pub small : x < 256
+
+one-true : (b : Bool) → one b ≡ 1 → b ≡ true
+one-true true e = refl
+one-true false e = cc
+
+-- the symbol at place i is marked, as the code does it, or was marked already
+module _ {s : List ℕ} {i x : ℕ} (p : SymbolAt s i x) {j : ℕ} (n : j ≡ i + 1) {m : List ℕ} (h : Holds (markIn (take i s)) m) where
+  passed : {m′ : List ℕ} → Holds (markIn (take i s ++ (x ∷ []))) m′ → Holds (markIn (take j s)) m′
+  passed g = rw (n, take-next s i (p .inside), ← p .here) g
+
+  pub marks-next : Holds (markIn (take j s)) (set m x 1)
+  marks-next = passed (marks-step (take i s) x (p .small) h)
+
+  pub marks-seen : getD m x 0 ≡ 1 → Holds (markIn (take j s)) m
+  unfolding markIn
+  marks-seen e = passed (holds-same h (λ v. ap one (same-has v x (take i s) (one-true (has x (take i s)) (sym (h .at x (p .small)) ∙ e)))))
 
 one-le : (b : Bool) → one b ≤ 1
 one-le true = omega arith
@@ -79,6 +96,26 @@ module _ (s : List ℕ) {m : List ℕ} (h : Holds (markIn s) m) where
 
   pub numbers-rising : {n : List ℕ} → Holds (sumBelow m) n → Holds (rising s) n
   numbers-rising g = record { full = g .full; at = λ v l. g .at v l ∙ sum-marks v (omega arith) }
+
+-- the four symbols from place i on are marked, or all were marked already
+module _ {s : List ℕ} {i a b c d : ℕ} (p : SymbolAt s i a) (q : SymbolAt s (i + 1) b) (r : SymbolAt s (i + 2) c) (t : SymbolAt s (i + 3) d)
+    {m : List ℕ} (h : Holds (markIn (take i s)) m) where
+  le : (v : ℕ) → getD m v 0 ≤ 1
+  le = marks-le (take i s) h
+
+  pub four-le : getD m a 0 + getD m b 0 + getD m c 0 + getD m d 0 ≤ 4
+  four-le = omega (arith, le a, le b, le c, le d)
+
+  pub four-next : Holds (markIn (take (i + 4) s)) (set (set (set (set m a 1) b 1) c 1) d 1)
+  four-next = marks-next t {j = i + 4} (omega arith) (marks-next r {j = i + 3} (omega arith) (marks-next q {j = i + 2} (omega arith) (marks-next p refl h)))
+
+  pub four-seen : 4 ≤ getD m a 0 + getD m b 0 + getD m c 0 + getD m d 0 → Holds (markIn (take (i + 4) s)) m
+  four-seen l =
+      let la = le a in
+      let lb = le b in
+      let lc = le c in
+      let ld = le d in
+      marks-seen t {j = i + 4} (omega arith) (marks-seen r {j = i + 3} (omega arith) (marks-seen q {j = i + 2} (omega arith) (marks-seen p refl h (omega arith)) (omega arith)) (omega arith)) (omega arith)
 
 -- numbers by first sight
 sight-seen : (t : List ℕ) (v : ℕ) → has v t ≡ true → sightIn t v ≡ firstSight t v

@@ -5,7 +5,7 @@ use mathlib.Core.List.{List}
 use Prim.Native.Nat.{ℕ, zero, suc, _+_, _<_}
 use lib.Dec.{eqb}
 use lib.ListN.{length, getD, set}
-use Rattle.capture.specs.Alphabet.{has, one, distinct, firstSight, rising}
+use Rattle.capture.specs.Alphabet.{has, one, firstSight}
 
 -- the table gives each value v what f gives it
 pub record Holds (f : ℕ → ℕ) (numbers : List ℕ) : Type 0 where

@@ -1,9 +1,9 @@
 -- What the bit reader answers: 1, then 2, then 3, "and 3 only for the symbol it reads". Definitions only.
-use Prim.Native.Nat.{ℕ, _*_}
+use Prim.Native.Nat.{ℕ}
 use mathlib.Core.Bool.{cond, _&&_}
 use mathlib.Core.List.{List}
 use lib.Dec.{leb, ltb, eqb}
-use lib.ListN.{length, getD}
+use lib.ListN.{getD}
 use Rattle.answer.specs.Numbers.{done, tooLong, tooShort, tooWide}
 use Rattle.capture.specs.Limit.{overLimit, widthOf}
 use Rattle.capture.specs.Bits.{bitAt, bitCount}

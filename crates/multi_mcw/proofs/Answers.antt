@@ -1,13 +1,10 @@
 -- What each track answers, one law for each way out of the code, in the order of the refusals. Assumes nothing.
-use mathlib.Core.Path.{_≡_, refl, sym, ap, _∙_}
-use mathlib.Core.Bool.{Bool, true, false, cond}
+use mathlib.Core.Path.{_≡_, refl, sym, _∙_}
 use mathlib.Core.List.{List}
 use Prim.Native.Nat.{ℕ, _*_, _-_, _≤_, _<_}
-use native.Mathlib.Omega.{arith}
-use lib.Dec.{eqb, ltb, leb}
 use lib.ListN.{length}
 use borrow.Author.Tests.{lt-ltb, le-ltb}
-use Rattle.answer.specs.Numbers.{done, tooLong, tooShort, tooWide, notRun}
+use Rattle.answer.specs.Numbers.{tooLong, tooShort, tooWide, notRun}
 use Rattle.answer.specs.Refused.{refused, refusedAt}
 use Rattle.answer.specs.declared.Answer.{Answer}
 use Rattle.capture.specs.Alphabet.{dense, distinct, written}
@@ -17,7 +14,7 @@ use Rattle.capture.proofs.Bitstring.{bits-length}
 use Rattle.capture.proofs.Widest.{wide-is, wide-place}
 use Rattle.prediction.specs.Estimate.{estimateOf}
 use Rattle.multi_mcw.specs.Mcw.{countsOf, firstPlace, leastSamples}
-use Rattle.multi_mcw.specs.Tracks.{estimated, mcwBits, literalNumber, mcwLiteral, mcwLiteralOutput}
+use Rattle.multi_mcw.specs.Tracks.{estimated, mcwBits, mcwLiteral, mcwLiteralOutput}
 use Rattle.multi_mcw.specs.declared.Counts.{Counts}
 use Rattle.multi_mcw.proofs.Translated.{dense-length}
 

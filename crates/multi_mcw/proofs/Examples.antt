@@ -1,8 +1,8 @@
 -- The definitions at small values. Assumes nothing.
 use mathlib.Core.Path.{_≡_, refl}
-use mathlib.Core.List.{List, [], _∷_}
+use mathlib.Core.List.{[], _∷_}
 use Rattle.multi_mcw.specs.Commonest.{occurrences, favourite, commonest, window}
-use Rattle.multi_mcw.specs.Mcw.{leastSamples, predictions}
+use Rattle.multi_mcw.specs.Mcw.{leastSamples}
 
 most : commonest (3 ∷ 1 ∷ 3 ∷ 2 ∷ []) ≡ 3
 unfolding commonest favourite occurrences

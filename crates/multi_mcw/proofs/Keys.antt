@@ -4,7 +4,7 @@ use mathlib.Core.List.{List}
 use Prim.Native.Nat.{ℕ, _+_, _-_, _*_, _/_, _≤_, _<_}
 use native.Mathlib.Omega.{arith}
 use lib.Dec.{leb}
-use lib.ListN.{length, getD, set, take, drop, replicate, length-take, length-drop, length-set, length-replicate, getD-replicate}
+use lib.ListN.{length, getD, take, drop, replicate, length-take, length-drop, length-set, length-replicate, getD-replicate}
 use lib.Seq.{getD-set-same, getD-set-other, getD-take, getD-drop}
 use borrow.Author.Count.{below-more}
 use borrow.Author.Tests.{leb-true, leb-false}

@@ -1,14 +1,14 @@
 -- The ones of a window as it rolls on, the ring of the latest bits, and what a window of bits says. Assumes nothing.
-use mathlib.Core.Path.{_≡_, refl, sym, ap, _∙_}
-use mathlib.Core.Bool.{true, false, cond}
-use mathlib.Core.List.{List, [], _∷_}
-use Prim.Native.Nat.{ℕ, _+_, _-_, _*_, _%_, _≤_, _<_}
+use mathlib.Core.Path.{_≡_, _∙_}
+use mathlib.Core.Bool.{cond}
+use mathlib.Core.List.{List}
+use Prim.Native.Nat.{ℕ, _+_, _-_, _%_, _≤_, _<_}
 use native.Mathlib.Omega.{arith}
 use lib.Dec.{leb, ltb}
-use lib.ListN.{length, getD, set, take, drop, replicate, length-take, length-drop, length-set, length-replicate, getD-replicate}
+use lib.ListN.{length, getD, set, drop, replicate, length-take, length-drop, length-set, length-replicate, getD-replicate}
 use lib.Seq.{getD-take, getD-drop, getD-set-same, getD-set-other}
 use borrow.Author.Tests.{leb-true, leb-false}
-use Rattle.race.specs.Race.{Guess, silent, says}
+use Rattle.race.specs.Race.{silent, says}
 use Rattle.race.specs.Held.{heard, heardFrom}
 use Rattle.race.proofs.Cases.{tested, same?}
 use Rattle.multi_mcw.specs.Commonest.{occurrences, commonest, window}

@@ -1,13 +1,13 @@
 -- One place of MultiMCW: what the windows say is heard as the definition says it, and the race goes on; the places before 63 change nothing. Assumes nothing.
-use mathlib.Core.Path.{_≡_, refl, sym, ap, _∙_}
-use mathlib.Core.Bool.{true, false, cond}
-use mathlib.Core.List.{List, [], _∷_}
+use mathlib.Core.Path.{_≡_, refl, _∙_}
+use mathlib.Core.Bool.{cond}
+use mathlib.Core.List.{List}
 use Prim.Native.Nat.{ℕ, zero, suc, _+_, _-_, _≤_, _<_, max}
 use native.Mathlib.Omega.{arith}
 use lib.Dec.{leb}
 use lib.ListN.{length, getD, replicate}
-use borrow.Author.Tests.{leb-true, leb-false, le-leb, lt-leb, lt-ltb}
-use Rattle.race.specs.Race.{Guess, silent, says, judge, scored}
+use borrow.Author.Tests.{leb-true, leb-false, lt-leb, lt-ltb}
+use Rattle.race.specs.Race.{silent, says, judge, scored}
 use Rattle.race.specs.Held.{heard, heardFrom, after, tallied, counterLimit, Countable, Led, Leadable}
 use Rattle.race.specs.declared.Leader.{Leader}
 use Rattle.race.specs.declared.Tally.{Tally}

@@ -1,6 +1,6 @@
 -- The counts of MultiMCW can be, so that the estimate never refuses them: an answer's number is that of the track's own refusals, or 0. Assumes nothing.
-use mathlib.Core.Path.{_≡_, refl, sym, ap, _∙_}
-use mathlib.Core.Bool.{Bool, true, false, cond, _&&_, _||_}
+use mathlib.Core.Path.{_≡_}
+use mathlib.Core.Bool.{false, _&&_}
 use mathlib.Core.List.{List}
 use Prim.Native.Nat.{ℕ, _*_, _-_, _≤_, _<_}
 use native.Mathlib.Nat.{le-trans, mul-le-mul-left, mul-le-mul-right}
@@ -9,7 +9,6 @@ use lib.Dec.{eqb, ltb}
 use lib.ListN.{length}
 use borrow.Author.Tests.{ltb-true, ltb-false, le-ltb, ne-eqb}
 use Rattle.answer.specs.Numbers.{done}
-use Rattle.answer.specs.declared.Answer.{Answer}
 use Rattle.capture.specs.Alphabet.{dense, distinct}
 use Rattle.capture.specs.Bits.{bitsOf}
 use Rattle.capture.specs.Limit.{symbolLimit, widthOf}
@@ -20,7 +19,6 @@ use Rattle.prediction.specs.Counts.{countLimit, impossibleCounts}
 use Rattle.prediction.specs.Estimate.{estimateOf, estimatedOf}
 use Rattle.race.proofs.Cases.{tested}
 use Rattle.race.proofs.Standing.{correct-le, run-le-correct, correct-run}
-use Rattle.multi_mcw.specs.Keys.{Samples}
 use Rattle.multi_mcw.specs.Mcw.{countsOf, predictions, said, sample, leastSamples}
 use Rattle.multi_mcw.specs.Tracks.{estimated, literalNumber, mcwLiteral}
 use Rattle.multi_mcw.proofs.Translated.{dense-length, dense-samples}

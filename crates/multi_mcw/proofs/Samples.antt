@@ -1,18 +1,16 @@
 -- The samples of the bitstring track, one by one, and the walk over them. Assumes nothing.
-use mathlib.Core.Path.{_≡_, refl, sym, ap, _∙_}
-use mathlib.Core.List.{List, [], _∷_, _++_}
-use Prim.Native.Nat.{ℕ, zero, suc, _+_, _-_, _*_, _/_, _%_, _^_, _≤_, _<_}
+use mathlib.Core.Path.{_≡_, sym, ap, _∙_}
+use mathlib.Core.List.{List}
+use Prim.Native.Nat.{ℕ, _+_, _-_, _<_}
 use native.Mathlib.Omega.{arith}
-use lib.ListN.{length, getD, length-append, List·getD-append}
-use lib.Seq.{getD-at}
-use Rattle.capture.specs.Bits.{Source, bitAt, bitsOf}
+use lib.ListN.{length, getD}
+use Rattle.capture.specs.Bits.{Source, bitsOf}
 use Rattle.capture.specs.Limit.{symbolLimit}
 use Rattle.capture.specs.Spots.{spotOf, nextSpot, spotBit}
 use Rattle.capture.specs.declared.Spot.{Spot}
-use Rattle.capture.proofs.Bitstring.{bits-length, bits-at, bit-small, bit-narrow}
+use Rattle.capture.proofs.Bitstring.{bits-length, bits-at, bit-small}
 use Rattle.capture.proofs.Clamping.{width-same, bits-small}
 use Rattle.capture.proofs.Walking.{spot-bit, spot-next, spot-after, spot-inside}
-use Rattle.race.proofs.Cases.{same?}
 
 -- a list of bits that is not too long
 pub record Bits (s : List ℕ) : Type 0 where

@@ -4,7 +4,7 @@ use mathlib.Core.List.{List}
 use Prim.Native.Nat.{ℕ, _+_, _-_, _/_, _≤_, _<_}
 use native.Mathlib.Omega.{arith}
 use lib.ListN.{length, getD}
-use Rattle.multi_mcw.specs.Keys.{unit, before, Keyed, Top, Kept, Samples, left, come, Better}
+use Rattle.multi_mcw.specs.Keys.{unit, Keyed, Top, Kept, Samples, left, come, Better}
 use Rattle.multi_mcw.proofs.Counting.{before-same, before-other}
 use Rattle.multi_mcw.proofs.Keys.{leave-has, leave-keyed, come-fits, come-keyed, top-stays, top-again}
 

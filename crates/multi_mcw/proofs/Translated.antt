@@ -1,14 +1,12 @@
 -- The samples of the literal track: what the translator leaves, and that its numbers are below the alphabet's size. Assumes nothing.
-use mathlib.Core.Path.{_≡_, refl, sym, ap, _∙_}
-use mathlib.Core.Bool.{Bool, true, false, cond}
-use mathlib.Core.List.{List, [], _∷_, _++_, map}
-use Prim.Native.Nat.{ℕ, zero, suc, _+_, _*_, _≤_, _<_}
+use mathlib.Core.Path.{_≡_, ap, _∙_}
+use mathlib.Core.List.{List}
+use Prim.Native.Nat.{ℕ, _≤_, _<_}
 use native.Mathlib.Omega.{arith}
-use lib.Dec.{eqb, ltb}
-use lib.ListN.{length, getD, take, drop, length-map}
+use lib.ListN.{length, take, drop, length-map}
 use lib.Seq.{take-at}
 use borrow.Author.Tests.{le-ltb}
-use Rattle.capture.specs.Alphabet.{alphabetNumber, alphabetOf, dense, distinct, firstSight, outputOf, written}
+use Rattle.capture.specs.Alphabet.{alphabetOf, dense, distinct, firstSight, outputOf, written}
 use Rattle.capture.specs.Limit.{symbolLimit}
 use Rattle.capture.specs.declared.Alphabet.{Alphabet}
 use Rattle.capture.proofs.Alphabets.{Bytes, dense-below}

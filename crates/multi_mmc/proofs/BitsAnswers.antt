@@ -1,18 +1,17 @@
 -- What the bitstring track answers and leaves in its counters, by the tests that led there. Assumes nothing.
 use mathlib.Core.Path.{_≡_, ap, sym, _∙_}
-use mathlib.Core.Bool.{Bool, true, false, cond}
+use mathlib.Core.Bool.{true, false}
 use mathlib.Core.List.{List}
 use Prim.Native.Nat.{ℕ, _-_, _*_, _≤_, _<_}
 use native.Mathlib.Nat.{le-refl}
 use native.Mathlib.Omega.{arith}
-use borrow.Author.Tests.{lt-ltb, le-ltb, eq-eqb, ne-eqb}
-use lib.Dec.{eqb, ltb}
+use borrow.Author.Tests.{lt-ltb, le-ltb, ne-eqb}
 use lib.ListN.{length}
-use Rattle.answer.specs.Numbers.{done, tooLong, tooShort, tooWide, notRun}
+use Rattle.answer.specs.Numbers.{tooLong, tooShort, tooWide, notRun}
 use Rattle.answer.specs.Refused.{refused, refusedAt}
 use Rattle.answer.specs.declared.Answer.{Answer}
-use Rattle.capture.specs.Bits.{Source, bitCount, bitsOf, firstWide, tooWideAt, wide}
-use Rattle.capture.specs.Limit.{symbolLimit, overLimit, widthOf}
+use Rattle.capture.specs.Bits.{Source, bitsOf, firstWide, tooWideAt, wide}
+use Rattle.capture.specs.Limit.{symbolLimit, widthOf}
 use Rattle.capture.proofs.Bitstring.{bits-length}
 use Rattle.capture.proofs.Clamping.{width-least, width-most}
 use Rattle.capture.proofs.Widest.{wide-is, wide-place}
@@ -21,7 +20,7 @@ use Rattle.mmc_bits.specs.Mmc as Bits
 use Rattle.mmc_bits.specs.Space as BitSpace
 use Rattle.prediction.specs.Estimate.{estimateOf}
 use Rattle.race.specs.declared.Tally.{Tally}
-use Rattle.multi_mmc.specs.Tracks.{bitsEstimate, bitsNumber, bitsOfCapture, leastSamples, mmcBits, mmcBitsSpace}
+use Rattle.multi_mmc.specs.Tracks.{bitsEstimate, bitsNumber, leastSamples, mmcBits, mmcBitsSpace}
 
 module _ (s : List ℕ) (w : ℕ) (space : List ℕ) where
   abbrev Answered : Answer → List ℕ → Type 0

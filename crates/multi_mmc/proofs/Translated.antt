@@ -1,11 +1,10 @@
 -- The translated capture as the estimators are handed it: the first numbers of the output. Assumes nothing.
-use mathlib.Core.Path.{_≡_, refl, ap, sym, subst, _∙_}
-use mathlib.Core.List.{List, map}
-use Prim.Native.Nat.{ℕ, _-_, _*_, _≤_, _<_}
-use native.Mathlib.Nat.{le-refl}
+use mathlib.Core.Path.{_≡_, ap, sym, _∙_}
+use mathlib.Core.List.{List}
+use Prim.Native.Nat.{ℕ, _-_, _≤_}
 use native.Mathlib.Omega.{arith}
 use borrow.Author.Tests.{le-ltb}
-use lib.ListN.{length, getD, take, length-map}
+use lib.ListN.{length, take, length-map}
 use lib.Seq.{take-at}
 use Rattle.capture.specs.Alphabet.{alphabetNumber, alphabetOf, distinct, outputOf, rising, sorted, written}
 use Rattle.capture.specs.Bits.{Source, bitsOf}

@@ -1,14 +1,15 @@
--- `powerOf` goes by halves: a number above 0 has one binary digit more than its half. Assumes nothing.
+-- `timesPower` goes by halves: a number above 0 has one binary digit more than its half. Assumes nothing.
 use mathlib.Core.Path.{_≡_, refl, sym, ap, _∙_, subst}
 use Prim.Native.Nat.{ℕ, suc, _-_, _*_, _/_, _%_, _^_, _≤_, _<_}
 use native.Mathlib.Nat.{le-trans, lt-of-lt-of-le, lt-of-not-le, lt-irrefl, pow-succ'}
 use native.Mathlib.Omega.{arith}
 use mathlib.Core.Bool.{Bool, cond}
+use lib.Dec.{eqb}
 use lib.Pow.{pow-mono}
-use lib.Ieee.{Float, binary64, mul, size, ofBits}
+use lib.Ieee.{Float, binary64, mul, size}
 use lib.Ieee.Digits.{size-lt, size-le}
 use borrow.Author.Tests.{eq-eqb, ne-eqb}
-use Rattle.power.specs.Power.{one, step, powerIn, powerOf}
+use Rattle.power.specs.Power.{timesIn, timesPower}
 
 -- ---- digits
 
@@ -31,30 +32,17 @@ half-size n h =
 
 -- ---- the definition, by the exponent
 
-pub power-zero : (x : Float) → powerOf x 0 ≡ one
-unfolding powerOf size
-power-zero x = refl
+pub times-none : (y x : Float) → timesPower y x 0 ≡ y
+unfolding timesPower size
+times-none y x = refl
 
-pub power-half : (x : Float) (n : ℕ) → 0 < n → powerOf x n ≡ step x n (powerOf x (n / 2))
-unfolding powerOf
-power-half x n h = ap (λ (d : ℕ). powerIn d x n) (half-size n h)
+module _ (y x : Float) (n : ℕ) (some : 0 < n) where
+  half : timesPower y x n ≡ timesPower (cond (eqb (n % 2) 1) (mul binary64 y x) y) (mul binary64 x x) (n / 2)
+  unfolding timesPower
+  half = ap (λ (d : ℕ). timesIn d y x n) (half-size n some)
 
-pub power-odd : (x : Float) (n : ℕ) → n % 2 ≡ 1 → powerOf x n ≡ mul binary64 (mul binary64 (powerOf x (n / 2)) (powerOf x (n / 2))) x
-unfolding step
-power-odd x n o =
-    let h = powerOf x (n / 2) in
-    power-half x n (above n o) ∙ ap (λ (b : Bool). cond b (mul binary64 (mul binary64 h h) x) (mul binary64 h h)) (eq-eqb (n % 2) 1 o)
-  where
-    above : (n : ℕ) → n % 2 ≡ 1 → 0 < n
-    above n h = omega arith
+  pub times-odd : n % 2 ≡ 1 → timesPower y x n ≡ timesPower (mul binary64 y x) (mul binary64 x x) (n / 2)
+  times-odd o = half ∙ ap (λ (b : Bool). timesPower (cond b (mul binary64 y x) y) (mul binary64 x x) (n / 2)) (eq-eqb (n % 2) 1 o)
 
-pub power-even : (x : Float) (n : ℕ) → 0 < n → (n % 2 ≡ 1 → ⊥) → powerOf x n ≡ mul binary64 (powerOf x (n / 2)) (powerOf x (n / 2))
-unfolding step
-power-even x n p o =
-    let h = powerOf x (n / 2) in
-    power-half x n p ∙ ap (λ (b : Bool). cond b (mul binary64 (mul binary64 h h) x) (mul binary64 h h)) (ne-eqb (n % 2) 1 o)
-
--- the code's 1.0
-pub one-is : ofBits binary64 0x3ff0_0000_0000_0000 ≡ one
-unfolding ofBits
-one-is = refl
+  pub times-even : (n % 2 ≡ 1 → ⊥) → timesPower y x n ≡ timesPower y (mul binary64 x x) (n / 2)
+  times-even o = half ∙ ap (λ (b : Bool). timesPower (cond b (mul binary64 y x) y) (mul binary64 x x) (n / 2)) (ne-eqb (n % 2) 1 o)

@@ -1,5 +1,5 @@
 -- The laws of `powerOf`.
 pub mod Halves
-pub mod Bases
 pub mod Unit
+pub mod Error
 mod Examples

@@ -1,134 +1,65 @@
--- A power of a double from 0 to 1 is from 0 to 1, and no NaN: rounding keeps the order, and 1 is a double. Assumes nothing.
-use mathlib.Core.Path.{_≡_, refl, sym, subst}
-use mathlib.Core.Logic.{_⊎_, inl, inr}
-use Prim.Native.Nat.{ℕ, zero, suc, _+_, _*_, _/_, _%_, _^_, _≤_, _<_, zero-le}
-use native.Mathlib.Nat.{le-trans, le-of-eq, le-of-lt, mul-le-mul, mul-one, one-mul, mul-pos, zero-mul}
-use native.Mathlib.Omega.{arith}
-use mathlib.Core.Bool.{Bool, true, false, not, _&&_, _||_, cond}
-use lib.IntN.{ℤ}
-use lib.Dec.{T, leb, ltb, eqb, leb→le, le→leb, ltb→lt, eqb→eq}
-use lib.Ieee.{Float, nan, inf, fin, Format, binary64, prec, emax, low, up, down, odd, units, round, mul, le, isNan}
-use lib.Ieee.Fits.{down-pos, round-is, and-l}
-use lib.Ieee.Exact.{HasValue}
-use lib.Ieee.Order.{round-mono, le-of-values}
-use lib.Ieee.Positive.{positive}
-use Rattle.power.specs.Power.{one, step, powerOf}
-use Rattle.power.proofs.Bases.{naught, halving}
-use Rattle.power.proofs.Halves.{power-zero, power-half}
+-- Powers of doubles from 0 to 1 are from 0 to 1 and in the order of their bases: rounding keeps the order, and 1 is a double. Assumes nothing.
+use mathlib.Core.Path.{_≡_, refl, subst}
+use Prim.Native.Nat.{ℕ, zero, suc, _/_, _%_}
+use mathlib.Core.Bool.{Bool, true, false, cond}
+use lib.Dec.{T, eqb}
+use lib.Ieee.{Float, binary64, mul, le, size}
+use Rattle.rounding.proofs.FromZero.{zero as +0, unsigned, unsigned-of-nonneg, nonneg-below, le-self, zero-le-nonneg, mul-unsigned}
+use Rattle.rounding.proofs.Ranges.{Between}
+use Rattle.rounding.proofs.Monotone.{mul-keeps}
+use Rattle.power.specs.Power.{one, timesIn, powerOf}
 
--- from 0 to 1, and not minus zero
-abbrev pub unit : Float → Bool
-unit nan = false
-unit (inf s) = false
-unit (fin true m e) = false
-unit (fin false m e) = leb (m * up e) (down e)
+-- from 0 to 1
+abbrev pub Unit : Float → Type 0
+Unit x = Between +0 x one
 
--- ---- what it says
+pub unit-of : (x : Float) → T (unsigned x) → T (le x one) → Unit x
+unit-of x u h = let p = nonneg-below x one u tt h in record { finite = p; from = zero-le-nonneg x p; to = h }
 
-pub unit-not-nan : (x : Float) → T (unit x) → T (not (isNan x))
-unfolding isNan
-unit-not-nan nan h = absurd h
-unit-not-nan (inf s) h = absurd h
-unit-not-nan (fin s m e) h = tt
-
-value : (m : ℕ) (e : ℤ) → HasValue (fin false m e) false (m * up e) (down e)
-value m e = (refl, refl)
-
-pub unit-le-one : (x : Float) → T (unit x) → T (le x one)
-unit-le-one nan h = absurd h
-unit-le-one (inf s) h = absurd h
-unit-le-one (fin true m e) h = absurd h
-unit-le-one (fin false m e) h =
-    le-of-values (fin false m e) one (m * up e) (down e) 1 1 (down-pos e) (omega arith) (value m e) (refl, refl)
-    (le-trans (le-of-eq (mul-one (m * up e))) (le-trans (leb→le (m * up e) (down e) h) (le-of-eq (sym (one-mul (down e))))))
-
-pub unit-ge-naught : (x : Float) → T (unit x) → T (le naught x)
-unit-ge-naught nan h = absurd h
-unit-ge-naught (inf s) h = absurd h
-unit-ge-naught (fin true m e) h = absurd h
-unit-ge-naught (fin false m e) h =
-    le-of-values naught (fin false m e) 0 1 (m * up e) (down e) (omega arith) (down-pos e) (refl, refl) (value m e)
-    (le-trans (le-of-eq (zero-mul (down e))) zero-le)
-
--- ---- where it holds: of what is not below zero, at most 1 is enough
-
-abbrev plain : Float → Bool
-plain nan = false
-plain (inf s) = not s
-plain (fin s m e) = not s
-
-or-split : (a b : Bool) → T (a || b) → T a ⊎ T b
-or-split true b t = inl tt
-or-split false b t = inr t
-
-lt-or-eq : (a b : ℕ) (c : Bool) → T (ltb a b || (eqb a b && c)) → a ≤ b
-lt-or-eq a b c t = elim (or-split (ltb a b) (eqb a b && c) t) [ inl u ↦ le-of-lt (ltb→lt a b u) | inr u ↦ le-of-eq (eqb→eq a b (and-l (eqb a b) c u)) ]
-
-unit-of-plain : (x : Float) → T (plain x) → T (le x one) → T (unit x)
-unfolding le
-unit-of-plain nan p h = absurd p
-unit-of-plain (inf true) p h = absurd p
-unit-of-plain (inf false) p h = absurd h
-unit-of-plain (fin true m e) p h = absurd p
-unit-of-plain (fin false m e) p h =
-    le→leb (m * up e) (down e)
-    (le-trans (le-of-eq (sym (mul-one (m * up e)))) (le-trans (lt-or-eq (m * up e * 1) (1 * 1 * down e) _ h) (le-of-eq (one-mul (down e)))))
-
-pub unit-of-positive : (x : Float) → T (positive x) → T (le x one) → T (unit x)
-unit-of-positive nan p h = absurd p
-unit-of-positive (inf s) p h = absurd p
-unit-of-positive (fin true m e) p h = absurd p
-unit-of-positive (fin false m e) p h = unit-of-plain (fin false m e) tt h
+pub unit-one : Unit one
+unit-one = unit-of one tt (le-self one tt)
 
 -- ---- products
+product-keeps : (x x' y y' : Float) → Unit x → Unit x' → Unit y → Unit y' → T (le x x') → T (le y y') → T (le (mul binary64 x y) (mul binary64 x' y'))
+product-keeps x x' y y' p p' q q' h k = mul-keeps binary64 x x' y y' (p .finite) (p' .finite) (q .finite) (q' .finite) h k
 
-plain-odd : (d q k l : ℕ) → T (plain (odd d false q k l))
-unfolding odd
-plain-odd d zero k l = tt
-plain-odd d (suc q) k l = tt
-
-plain-units : (f : Format) (q k : ℕ) → T (plain (units f false q k))
-unfolding units
-plain-units f q k = go (ltb (q * 2 ^ k) (2 ^ (low f + suc (emax f))))
-  where
-    go : (b : Bool) → T (plain (cond b (odd (suc (prec f)) false q k (low f)) (inf false)))
-    go true = plain-odd (suc (prec f)) q k (low f)
-    go false = tt
-
-plain-round : (f : Format) (a b : ℕ) → T (plain (round f false a b))
-plain-round f a b = subst (λ (v : Float). T (plain v)) (sym (round-is f false a b)) (plain-units f _ _)
-
-one-rounded : round binary64 false 1 1 ≡ one
-unfolding round
-one-rounded = refl
-
-unit-round : (a b : ℕ) → 0 < b → a ≤ b → T (unit (round binary64 false a b))
-unit-round a b p h =
-    unit-of-plain (round binary64 false a b) (plain-round binary64 a b)
-    (subst (λ (v : Float). T (le (round binary64 false a b) v)) one-rounded
-    (round-mono binary64 a b 1 1 p (omega arith) (le-trans (le-of-eq (mul-one a)) (le-trans h (le-of-eq (sym (one-mul b)))))))
-
-pub unit-mul : (x y : Float) → T (unit x) → T (unit y) → T (unit (mul binary64 x y))
+one-squared : mul binary64 one one ≡ one
 unfolding mul
-unit-mul nan y p q = absurd p
-unit-mul (inf s) y p q = absurd p
-unit-mul (fin true m e) y p q = absurd p
-unit-mul (fin false m e) nan p q = absurd q
-unit-mul (fin false m e) (inf t) p q = absurd q
-unit-mul (fin false m e) (fin true n d) p q = absurd q
-unit-mul (fin false m e) (fin false n d) p q =
-    unit-round (m * up e * (n * up d)) (down e * down d) (mul-pos (down-pos e) (down-pos d)) (mul-le-mul (leb→le (m * up e) (down e) p) (leb→le (n * up d) (down d) q))
+one-squared = refl
 
-unit-step : (x h : Float) (n : ℕ) → T (unit x) → T (unit h) → T (unit (step x n h))
-unfolding step
-unit-step x h n p q = go (eqb (n % 2) 1)
-  where
-    go : (b : Bool) → T (unit (cond b (mul binary64 (mul binary64 h h) x) (mul binary64 h h)))
-    go true = unit-mul (mul binary64 h h) x (unit-mul h h q q) p
-    go false = unit-mul h h q q
+pub unit-mul : (x y : Float) → Unit x → Unit y → Unit (mul binary64 x y)
+unit-mul x y p q =
+    unit-of (mul binary64 x y) (mul-unsigned binary64 x y (unsigned-of-nonneg x (p .finite)) (unsigned-of-nonneg y (q .finite)))
+    (subst (λ (z : Float). T (le (mul binary64 x y) z)) one-squared (product-keeps x one y one p unit-one q unit-one (p .to) (q .to)))
+
+-- ---- powers
+taken : (b : Bool) (y x : Float) → Unit y → Unit x → Unit (cond b (mul binary64 y x) y)
+taken true y x p q = unit-mul y x p q
+taken false y x p q = p
+
+times-in-unit : (d : ℕ) (y x : Float) (n : ℕ) → Unit y → Unit x → Unit (timesIn d y x n)
+unfolding timesIn
+times-in-unit zero y x n p q = p
+times-in-unit (suc d) y x n p q = times-in-unit d (cond (eqb (n % 2) 1) (mul binary64 y x) y) (mul binary64 x x) (n / 2) (taken (eqb (n % 2) 1) y x p q) (unit-mul x x q q)
 
 -- 0 ≤ x ≤ 1 gives 0 ≤ x ^ n ≤ 1
-pub power-in-unit : (x : Float) → T (unit x) → (n : ℕ) → T (unit (powerOf x n))
-power-in-unit x p =
-    halving (λ (n : ℕ). T (unit (powerOf x n))) (subst (λ (v : Float). T (unit v)) (sym (power-zero x)) tt)
-    (λ n q h. subst (λ (v : Float). T (unit v)) (sym (power-half x n q)) (unit-step x (powerOf x (n / 2)) n p h))
+pub power-in-unit : (x : Float) → Unit x → (n : ℕ) → Unit (powerOf x n)
+unfolding powerOf
+power-in-unit x p n = times-in-unit (size n) one x n unit-one p
+
+taken-keeps : (b : Bool) (y y' x x' : Float) → Unit y → Unit y' → Unit x → Unit x' → T (le y y') → T (le x x') → T (le (cond b (mul binary64 y x) y) (cond b (mul binary64 y' x') y'))
+taken-keeps true y y' x x' p p' q q' h k = product-keeps y y' x x' p p' q q' h k
+taken-keeps false y y' x x' p p' q q' h k = h
+
+times-keeps : (d : ℕ) (y y' x x' : Float) (n : ℕ) → Unit y → Unit y' → Unit x → Unit x' → T (le y y') → T (le x x') → T (le (timesIn d y x n) (timesIn d y' x' n))
+unfolding timesIn
+times-keeps zero y y' x x' n p p' q q' h k = h
+times-keeps (suc d) y y' x x' n p p' q q' h k =
+    let b = eqb (n % 2) 1 in
+    times-keeps d (cond b (mul binary64 y x) y) (cond b (mul binary64 y' x') y') (mul binary64 x x) (mul binary64 x' x') (n / 2) (taken b y x p q) (taken b y' x' p' q') (unit-mul x x q q) (unit-mul x' x' q' q')
+    (taken-keeps b y y' x x' p p' q q' h k) (product-keeps x x' x x' q q' q q' k k)
+
+-- 0 ≤ x ≤ y ≤ 1 gives x ^ n ≤ y ^ n
+pub power-keeps : (x y : Float) → Unit x → Unit y → T (le x y) → (n : ℕ) → T (le (powerOf x n) (powerOf y n))
+unfolding powerOf
+power-keeps x y p q h n = times-keeps (size n) one one x y n unit-one unit-one p q (le-self one tt) h

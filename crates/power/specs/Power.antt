@@ -9,17 +9,17 @@ use lib.Ieee.{Float, fin, binary64, mul, size}
 abbrev pub one : Float
 one = fin false 1 (pos 0)
 
--- From the power of half the exponent to that of n: its square, and that times x where n is odd. Each product is rounded.
-unfoldable pub step : Float → ℕ → Float → Float
-step x n half = let square = mul binary64 half half in cond (eqb (n % 2) 1) (mul binary64 square x) square
+-- y * x ^ n for an n of at most d binary digits. x ^ n is the power of the square of x to half of n, and that times x where n is odd; each product is rounded.
+-- The exponent loses a digit each time it is halved.
+unfoldable pub timesIn : ℕ → Float → Float → ℕ → Float
+timesIn zero y x n = y
+timesIn (suc d) y x n = timesIn d (cond (eqb (n % 2) 1) (mul binary64 y x) y) (mul binary64 x x) (n / 2)
 
--- x ^ n for an n of at most d binary digits: the exponent loses a digit each time it is halved.
-unfoldable pub powerIn : ℕ → Float → ℕ → Float
-unfolding step
-powerIn zero x n = one
-powerIn (suc d) x n = step x n (powerIn d x (n / 2))
+unfoldable pub timesPower : Float → Float → ℕ → Float
+unfolding timesIn
+timesPower y x n = timesIn (size n) y x n
 
 -- x ^ n, and 1.0 for n = 0
 unfoldable pub powerOf : Float → ℕ → Float
-unfolding powerIn
-powerOf x n = powerIn (size n) x n
+unfolding timesPower
+powerOf x n = timesPower one x n

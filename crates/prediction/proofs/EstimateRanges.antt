@@ -1,21 +1,20 @@
 -- Every probability of an estimate that is not refused is a number in its range, so the entropy is never refused inside an estimate and is demand 3's figure of the largest of them.
 -- Assumes nothing.
-use mathlib.Core.Path.{_≡_, refl, sym, subst, ap, _∙_}
+use mathlib.Core.Path.{_≡_, refl, sym, subst}
 use mathlib.Core.Bool.{Bool, true, false, cond}
 use mathlib.Core.Logic.{_⊎_, inl, inr}
-use Prim.Native.Nat.{ℕ, zero, suc, _*_, _^_, _≤_, _<_}
+use Prim.Native.Nat.{ℕ, _^_, _≤_, _<_}
 use native.Mathlib.Nat.{pos-of-ne-zero, zero-lt-suc}
 use native.Mathlib.Omega.{arith}
 use borrow.Author.Tests.{eqb-false}
 use lib.Dec.{T, eqb}
 use lib.IntN.{pos}
-use lib.Ieee.{Float, nan, inf, fin, binary64, prec, fits, isNan, ofInt, round, lt, le, sub}
+use lib.Ieee.{Float, nan, inf, fin, binary64, prec, fits, isNan, lt, le}
 use lib.Ieee.Exact.{HasValue}
 use lib.Ieee.Order.{le-of-values}
 use lib.Ieee.Fits.{add-fits, div-fits, cond-fits}
 use Rattle.answer.specs.Refused.{minusOne}
 use Rattle.entropy.specs.DemandThree.{DemandThree}
-use Rattle.entropy.specs.Entropy.{entropyOf}
 use Rattle.entropy.specs.MinEntropy.{Probability, minEntropyOf}
 use Rattle.entropy.proofs.Cases.{in-range-number, in-range-value}
 use Rattle.entropy.proofs.DemandThree.{demand-three}
@@ -27,7 +26,7 @@ use Rattle.rounding.proofs.Operations.{sub-is}
 use Rattle.rounding.proofs.Ranges.{Between, whole-value, share-range, reciprocal-range, complement-range, capped-range}
 use Rattle.sqrt.specs.Sqrt.{sqrtOf}
 use Rattle.sqrt.proofs.Special.{root-of-nan, root-of-infinity}
-use Rattle.sqrt.proofs.Range.{plain, root-is-plain}
+use Rattle.sqrt.proofs.Range.{root-nonneg}
 use Rattle.zero_count.specs.ZeroCount.{zeroCountBound}
 use Rattle.zero_count.proofs.Range.{bound-range, bound-fits}
 use Rattle.prediction.specs.Bisection.{localValue}
@@ -36,6 +35,7 @@ use Rattle.prediction.specs.Doubles.{one, least, whole, z995, atMostOne,
 use Rattle.prediction.specs.Doubles as D
 use Rattle.prediction.specs.Estimate.{pGlobal, upperBound, primeOf, pGlobalPrime, floorFrom, floorOf, canRaise, pLocal, largest}
 use Rattle.prediction.proofs.LocalRange.{Inside, local-inside}
+use Rattle.prediction.proofs.Reaching.{z-nonneg}
 use Rattle.prediction.proofs.Refusals.{Possible}
 use Rattle.prediction.proofs.Whole.{limit-small}
 
@@ -63,17 +63,12 @@ global-range c n h l = by-none (eqb n 0) refl
     by-none false e = share-range binary64 c n h (pos-of-ne-zero (eqb-false n 0 e)) (few n l)
 
 -- no minus sign comes of the root
-plain-unsigned : (x : Float) → T (plain x) → T (unsigned x)
-plain-unsigned nan p = tt
-plain-unsigned (inf s) p = absurd p
-plain-unsigned (fin s m e) p = p
-
 root-unsigned : (x : Float) → T (fits binary64 x) → T (unsigned x) → T (unsigned (sqrtOf binary64 x))
 root-unsigned nan d u = subst (λ (z : Float). T (unsigned z)) (sym (root-of-nan binary64)) tt
 root-unsigned (inf true) d u = absurd u
 root-unsigned (inf false) d u = subst (λ (z : Float). T (unsigned z)) (sym (root-of-infinity binary64)) tt
 root-unsigned (fin true m e) d u = absurd u
-root-unsigned (fin false m e) d u = plain-unsigned (sqrtOf binary64 (fin false m e)) (root-is-plain (fin false m e) d tt)
+root-unsigned (fin false m e) d u = unsigned-of-nonneg (sqrtOf binary64 (fin false m e)) (root-nonneg (fin false m e) d tt)
 
 -- N - 1
 less-one : (n : ℕ) → 0 < n → n ≤ countLimit → T (unsigned (whole n ⊖ one))
@@ -83,10 +78,6 @@ less-one n h l =
     let o : T (le one (whole n)) = le-of-values one (whole n) 1 1 n 1 (zero-lt-suc 0) (zero-lt-suc 0) (refl, refl) v (omega arith) in
     subst (λ (z : Float). T (unsigned z)) (sym (sub-is binary64 (whole n) one p tt o)) (round-unsigned binary64 _ _)
 
-z-unsigned : T (unsigned z995)
-unfolding z995
-z-unsigned = round-unsigned binary64 2575829303548901 1000000000000000
-
 upper-unsigned : (p : Float) (n : ℕ) → Between D.zero p one → 0 < n → n ≤ countLimit → T (unsigned (p ⊕ z995 ⊗ sqrtOf binary64 (p ⊗ (one ⊖ p) ⊘ (whole n ⊖ one))))
 upper-unsigned p n r h l =
     let u : T (unsigned p) = unsigned-of-nonneg p (r .finite) in
@@ -94,7 +85,7 @@ upper-unsigned p n r h l =
     let s = p ⊗ (one ⊖ p) ⊘ (whole n ⊖ one) in
     let v : T (unsigned s) = div-unsigned binary64 (p ⊗ (one ⊖ p)) (whole n ⊖ one) (mul-unsigned binary64 p (one ⊖ p) u q) (less-one n h l) in
     add-unsigned binary64 p (z995 ⊗ sqrtOf binary64 s) u
-    (mul-unsigned binary64 z995 (sqrtOf binary64 s) z-unsigned (root-unsigned s (div-fits binary64 (p ⊗ (one ⊖ p)) (whole n ⊖ one)) v))
+    (mul-unsigned binary64 z995 (sqrtOf binary64 s) (unsigned-of-nonneg z995 z-nonneg) (root-unsigned s (div-fits binary64 (p ⊗ (one ⊖ p)) (whole n ⊖ one)) v))
 
 capped-fits : (x y : Float) → T (fits binary64 (atMostOne (x ⊕ y)))
 capped-fits x y = cond-fits binary64 (lt (x ⊕ y) one) (x ⊕ y) one (add-fits binary64 x y) one-fits

@@ -1,15 +1,15 @@
 -- The solution of the bisection is a double from ldomain to 1: every bound and every p on the way is. Assumes nothing.
-use mathlib.Core.Path.{_≡_, refl, sym, subst}
+use mathlib.Core.Path.{_≡_, refl}
 use mathlib.Core.Bool.{Bool, true, false, not, _||_, cond}
 use Prim.Native.Nat.{ℕ, zero, suc, _*_, _^_, _≤_, _<_}
-use native.Mathlib.Nat.{le-of-lt, le-refl, mul-lt-mul-of-pos-right}
+use native.Mathlib.Nat.{le-of-lt, mul-lt-mul-of-pos-right}
 use native.Mathlib.Omega.{arith}
 use lib.Dec.{T, lit<}
 use lib.Ieee.{Float, binary64, emax, fits, lt, le, eq, add, div}
 use lib.Ieee.Fits.{div-fits}
 use lib.Ieee.Positive.{num, den, den-pos}
 use Rattle.rounding.proofs.Compare.{le-false}
-use Rattle.rounding.proofs.FromZero.{nonneg, cross-of-le, le-of-cross, le-chain}
+use Rattle.rounding.proofs.FromZero.{nonneg, cross-of-le, le-self, le-of-cross, le-chain}
 use Rattle.rounding.proofs.Midpoint.{midpoint-range}
 use Rattle.rounding.proofs.Ranges.{Between}
 use Rattle.prediction.specs.Bisection.{
@@ -41,9 +41,6 @@ module _ (P : Float → Type 0) where
   pick-one : (b : Bool) (x y : Float) → P x → P y → P (cond b x y)
   pick-one true x y p q = p
   pick-one false x y p q = q
-
-le-self : (x : Float) → T (nonneg x) → T (le x x)
-le-self x p = le-of-cross x x p p (le-refl (num x * den x))
 
 -- what lies from a to b lies from lo to 1 where a and b do
 within : (lo a x b : Float) → T (nonneg lo) → Inside lo a → Inside lo b → Between a x b → T (fits binary64 x) → Inside lo x

@@ -1,6 +1,6 @@
 -- The bisection for p_local, with its interval checks and its cycle check in the order of document 001. Definitions only.
 use Prim.Native.Nat.{ℕ, zero, suc, _+_}
-use mathlib.Core.Bool.{Bool, true, false, cond, not, _&&_, _||_}
+use mathlib.Core.Bool.{Bool, true, false, cond, not, _||_}
 use lib.Ieee.{Float, inf, lt, le, eq}
 use Rattle.answer.specs.Numbers.{done, impossible, outOfRange}
 use Rattle.answer.specs.Refused.{refusedSolved}

@@ -1,8 +1,8 @@
 -- Numbers and comparisons of doubles as prediction.rs has them. Definitions only.
-use Prim.Native.Nat.{ℕ, _^_}
+use Prim.Native.Nat.{ℕ}
 use mathlib.Core.Bool.{Bool, false, cond, _&&_}
 use lib.IntN.{pos, negsuc}
-use lib.Ieee.{Float, fin, inf, binary64, ofInt, round, lt, le}
+use lib.Ieee.{Float, fin, binary64, ofInt, round, lt, le}
 
 -- 0.0, 1.0 and 2.0
 abbrev pub zero : Float

@@ -1,9 +1,9 @@
 -- The estimate of C correct of N predictions with a longest run, over an alphabet of k symbols, in the order of document 001. Definitions only.
-use Prim.Native.Nat.{ℕ, _+_}
+use Prim.Native.Nat.{ℕ}
 use mathlib.Core.Bool.{Bool, cond, _&&_}
 use lib.Dec.{eqb}
 use lib.Ieee.{Float, binary64, lt}
-use Rattle.answer.specs.Numbers.{done, impossible}
+use Rattle.answer.specs.Numbers.{impossible}
 use Rattle.answer.specs.Refused.{minusOne, refused, ran}
 use Rattle.answer.specs.declared.Answer.{Answer}
 use Rattle.answer.specs.declared.Estimate.{Estimate}

@@ -10,8 +10,14 @@ use answer::Estimate;
 use answer::IMPOSSIBLE;
 use answer::Solved;
 ghost use mathlib.Core.Path.{_≡_};
-ghost use Prim.Native.Nat.{_≤_, _<_};
+ghost use mathlib.Core.Bool.{true};
+ghost use Prim.Native.Nat.{_≤_};
+ghost use lib.Dec.{T};
+ghost use lib.Ieee.{binary64, le, lt};
+ghost use Rattle.ln.specs.Ln.{_⊕_, _⊗_};
+ghost use Rattle.sqrt.specs.Sqrt.{sqrtOf};
 ghost use Rattle.prediction.specs.Counts.{countLimit};
+ghost use Rattle.prediction.specs.Doubles.{atMostOne, one, z995, zero};
 ghost use Rattle.prediction.specs.Estimate.{canRaise, estimateOf, estimatedOf, floorFrom, pGlobal, pLocal, primeOf, roundsFor, upperBound};
 
 // The 0.995 quantile of the normal distribution.
@@ -28,18 +34,33 @@ fn p_global(c: u64, n: u64) -> f64
     (c as f64) / (n as f64)
 }
 
+// Whether p + z √v is 1 at least, told without the root: w is a little over (1 - p) / z. No is no answer.
+fn reaches_one(p: f64, v: f64) -> bool
+    requires { ⌜ (lt zero p ≡ true) × T (le p one) ⌝ }
+    ensures { λ r. ⌜ (r ≡ true → atMostOne (p ⊕ z995 ⊗ sqrtOf binary64 v) ≡ one) ⌝ }
+{
+    let w = (1.0 - p) * 0.388_224_483_129_817_33; // 1 / z times 1 + 2^-40
+    if w * w < v {
+        return p + Z_995 * w >= 1.0;
+    }
+    false
+}
+
 // The upper end of the 99 % confidence interval of p, at most 1.
 fn upper_bound(p: f64, n: u64) -> f64
-    requires { ⌜ n ≤ countLimit ⌝ }
+    requires { ⌜ (lt zero p ≡ true) × T (le p one) × (n ≤ countLimit) ⌝ }
     ensures { λ r. ⌜ r ≡ upperBound p n ⌝ }
 {
-    let spread = sqrt::sqrt(p * (1.0 - p) / (n as f64 - 1.0));
-    at_most_one(p + Z_995 * spread)
+    let variance = p * (1.0 - p) / (n as f64 - 1.0);
+    if reaches_one(p, variance) {
+        return 1.0;
+    }
+    at_most_one(p + Z_995 * sqrt::sqrt(variance))
 }
 
 // p_global' from p_global.
 fn p_global_prime(p: f64, n: u64) -> f64
-    requires { ⌜ n ≤ countLimit ⌝ }
+    requires { ⌜ T (le p one) × (n ≤ countLimit) ⌝ }
     ensures { λ r. ⌜ r ≡ primeOf p n ⌝ }
 {
     if p > 0.0 {

@@ -6,7 +6,7 @@ use answer::Value;
 ghost use mathlib.Core.Path.{_≡_};
 ghost use Prim.Native.Nat.{_+_, _≤_, _<_};
 ghost use Rattle.prediction.specs.Counts.{countLimit};
-ghost use Rattle.prediction.specs.Function.{atFixedPoint, fixedPoint, functionOf, settled, updated, updates, valueAt};
+ghost use Rattle.prediction.specs.Function.{atFixedPoint, fixedPoint, functionOf, updated, valueAt};
 
 // 2^-52, the distance from 1 to the next double.
 const EPSILON: f64 = 2.220446049250313e-16;

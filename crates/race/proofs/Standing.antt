@@ -1,14 +1,14 @@
 -- The standing after some places, over any number of sub-predictors, any guesses and any truth; and the events, one for each place in order. Assumes nothing.
-use mathlib.Core.Path.{_≡_, refl, sym, ap, _∙_}
+use mathlib.Core.Path.{_≡_, refl, ap, _∙_}
 use mathlib.Core.Bool.{Bool, true, false, cond}
-use mathlib.Core.List.{List, [], _∷_, _++_}
+use mathlib.Core.List.{List, [], _∷_}
 use Prim.Native.Nat.{ℕ, zero, suc, _+_, _≤_, _<_}
 use native.Mathlib.Omega.{arith}
 use native.Mathlib.Numerals.{add-one}
 use lib.Dec.{leb}
 use lib.ListN.{length, getD, set, replicate, length-set, length-replicate, length-append, List·getD-append}
 use lib.Seq.{getD-set-same, getD-set-other, getD-at}
-use Rattle.race.specs.Race.{Guess, silent, Verdict, hit, miss, none, judge, Standing, point, settle, scored, Event, verdictOf, hits, longest, standing, event, events, correct, longestRun, finalScore}
+use Rattle.race.specs.Race.{Guess, silent, Verdict, hit, miss, none, judge, Standing, point, settle, scored, Event, longest, standing, event, events, correct, longestRun, finalScore}
 use Rattle.race.proofs.Cases.{same?}
 use Rattle.race.proofs.Trace.{hits-le, longest-le-hits, hits-longest}
 

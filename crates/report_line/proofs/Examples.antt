@@ -3,7 +3,7 @@ use mathlib.Core.Path.{_≡_, refl}
 use mathlib.Core.Bool.{true, false}
 use mathlib.Core.List.{[], _∷_}
 use lib.IntN.{pos}
-use lib.Ieee.{binary64, fin, toBits}
+use lib.Ieee.{fin, toBits}
 use Rattle.answer.specs.Refused.{minusOne, ran, refused}
 use Rattle.report_line.specs.Line.{lineOf}
 use Rattle.report_line.specs.Numerals.{decimal, digits, glyph, pattern, places, placesIn}

@@ -1,15 +1,16 @@
 -- Comparison of floats is comparison of the exact values: the code's tests `<`, `<=`, `==` of two finite values not below zero, as facts of their fractions, and back.
 -- `cross-of-le` and `le-of-cross` of FromZero are the rest of `<=`. Assumes nothing.
 use mathlib.Core.Path.{_≡_, refl, sym, _∙_, subst}
-use Prim.Native.Nat.{_*_, _≤_, _<_}
-use native.Mathlib.Nat.{lt-of-not-le}
-use mathlib.Core.Bool.{Bool, true, false, not, _&&_, _||_, true≢false}
+use Prim.Native.Nat.{_*_, _≤_, _<_, zero-le}
+use mathlib.Core.Logic.{_⊎_, inl, inr}
+use native.Mathlib.Nat.{lt-of-le-of-lt, lt-of-not-le, not-le-of-lt}
+use mathlib.Core.Bool.{Bool, true, false, not, _&&_, _||_, true≢false, false≢true}
 use lib.Dec.{T, ltb, eqb, ltb→lt, lt→ltb, nltb→le, eqb→eq}
-use lib.Ieee.{Float, nan, inf, fin, lt, le, eq}
+use lib.Ieee.{Float, nan, inf, fin, up, down, lt, le, eq}
 use lib.Ieee.Bits.{is-true}
 use lib.Ieee.Fits.{and-l, and-i, eq→eqb}
-use lib.Ieee.Positive.{num, den}
-use Rattle.rounding.proofs.FromZero.{nonneg, cross-of-le, le-of-cross}
+use lib.Ieee.Positive.{num, den, positive, first-pos}
+use Rattle.rounding.proofs.FromZero.{nonneg, unsigned, nonneg-below, cross-of-le, le-of-cross}
 
 -- ---- a test that was taken or left
 pub holds : (b : Bool) → b ≡ true → T b
@@ -81,3 +82,25 @@ or-left a b e = subst (λ (x : Bool). T (x || b)) (sym e) tt
 pub le-of-lt : (x y : Float) → lt x y ≡ true → T (le x y)
 unfolding le
 le-of-lt x y e = or-left (lt x y) (eq x y) e
+
+-- a value with no minus sign that is below x is not at least x
+pub lt-not-le : (x y : Float) → T (nonneg x) → T (unsigned y) → lt y x ≡ true → T (le x y) → ⊥
+lt-not-le x y p u h l =
+    let q : T (nonneg y) = nonneg-below y x u p (le-of-lt y x h) in
+    not-le-of-lt (lt-true y x q p h) (cross-of-le x y p q l)
+
+-- what is above a value with no minus sign is the infinity, or finite and above zero
+pub infinite-or-positive : (y x : Float) → T (unsigned y) → lt y x ≡ true → (x ≡ inf false) ⊎ T (positive x)
+unfolding lt
+infinite-or-positive nan x u t = absurd (false≢true t)
+infinite-or-positive (inf true) x u t = absurd u
+infinite-or-positive (inf false) nan u t = absurd (false≢true t)
+infinite-or-positive (inf false) (inf s) u t = absurd (false≢true t)
+infinite-or-positive (inf false) (fin s n d) u t = absurd (false≢true t)
+infinite-or-positive (fin true m e) x u t = absurd u
+infinite-or-positive (fin false m e) nan u t = absurd (false≢true t)
+infinite-or-positive (fin false m e) (inf true) u t = absurd (false≢true t)
+infinite-or-positive (fin false m e) (inf false) u t = inl refl
+infinite-or-positive (fin false m e) (fin true n d) u t = absurd (false≢true t)
+infinite-or-positive (fin false m e) (fin false n d) u t =
+    inr (lt→ltb 0 n (first-pos n (up d) (first-pos (n * up d) (down e) (lt-of-le-of-lt zero-le (ltb→lt (m * up e * down d) (n * up d * down e) (holds _ t))))))

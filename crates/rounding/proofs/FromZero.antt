@@ -3,7 +3,7 @@
 use mathlib.Core.Path.{refl, sym, subst}
 use mathlib.Core.Logic.{_⊎_, inl, inr}
 use Prim.Native.Nat.{ℕ, suc, _+_, _*_, _^_, _≤_, _<_, zero-le}
-use native.Mathlib.Nat.{le-of-eq, le-of-lt, zero-mul}
+use native.Mathlib.Nat.{le-refl, le-of-eq, le-of-lt, zero-mul}
 use mathlib.Core.Bool.{Bool, true, false, not, _&&_, _||_, cond}
 use lib.IntN.{pos}
 use lib.Dec.{T, ltb, eqb, eqb→eq, ltb→lt, lt→ltb}
@@ -70,6 +70,9 @@ cross-of-le (fin false m e) (fin false n d) p q h = lt-or-eq _ _ h
 
 pub le-of-cross : (x y : Float) → T (nonneg x) → T (nonneg y) → num x * den y ≤ num y * den x → T (le x y)
 le-of-cross x y p q h = le-of-values x y (num x) (den x) (num y) (den y) (den-pos x) (den-pos y) (value-of x p) (value-of y q) h
+
+pub le-self : (x : Float) → T (nonneg x) → T (le x x)
+le-self x p = le-of-cross x x p p (le-refl (num x * den x))
 
 -- by any fractions that the values equal
 pub fractions-of-le : (x y : Float) (a c b d : ℕ) → HasValue x false a c → HasValue y false b d → T (le x y) → a * d ≤ b * c

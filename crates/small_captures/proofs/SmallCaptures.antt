@@ -6,7 +6,7 @@ use Prim.Native.Nat.{ℕ, _-_, _≤_}
 use native.Mathlib.Omega.{arith}
 use borrow.Author.Tests.{le-ltb}
 use lib.Dec.{leb, ltb}
-use lib.ListN.{length, replicate}
+use lib.ListN.{length}
 use Rattle.answer.specs.declared.Answer.{Answer}
 use Rattle.capture.specs.Alphabet.{distinct, distinctBelow, has, rising, sorted}
 use Rattle.capture.specs.Bits.{bitAt, bitsOf, firstWide, table}
@@ -25,7 +25,7 @@ use Rattle.multi_mmc.specs.Tracks.{bitsEstimate, bitsNumber, bitsOfCapture, lit
 use Rattle.prediction.specs.Counts.{countLimit, impossibleCounts}
 use Rattle.prediction.specs.Estimate.{estimate, estimatedOf, estimateOf}
 use Rattle.race.specs.Race.{event, events, hits, longest, scored, standing, stretch}
-use Rattle.small_captures.specs.SmallCaptures.{All, Right, Row, Track, answerOf, mcw-bits, mmc-bits, mmc-literal, more, none, rows}
+use Rattle.small_captures.specs.SmallCaptures.{All, Right, Track, answerOf, mmc-bits, mmc-literal, more, none, rows}
 
 -- what an estimate of counts that can be holds
 pub record Holds (a : Answer) (c n run : ℕ) : Type 0 where

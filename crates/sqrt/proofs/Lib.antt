@@ -8,4 +8,5 @@ pub mod Rounded
 pub mod Special
 pub mod CorrectRounding
 pub mod Range
+pub mod Above
 mod Examples

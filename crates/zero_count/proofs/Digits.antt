@@ -1,73 +1,88 @@
--- The root's digits, one by one, as the code's loop finds them. Assumes nothing.
-use mathlib.Core.Path.{_≡_, sym, ap, _∙_, subst}
+-- The root's digits are the one number that is low enough and whose successor is not: each digit keeps that, and the power keeps the order of the fractions. Assumes nothing.
+use mathlib.Core.Path.{_≡_, refl, sym, ap, _∙_, subst}
+use mathlib.Core.Logic.{_⊎_, inl, inr}
+use mathlib.Core.Bool.{Bool, true, false}
 use Prim.Native.Nat.{ℕ, zero, suc, _+_, _*_, _^_, _≤_, _<_}
-use native.Mathlib.Nat.{lt-of-lt-of-le, zero-lt-suc, pow-suc}
+use native.Mathlib.Nat.{le-antisymm, le-of-lt, zero-lt-suc, le-refl, pow-suc}
 use native.Mathlib.Omega.{arith}
-use mathlib.Core.Bool.{Bool, true, false, cond}
-use lib.Dec.{lit≤}
-use lib.Pow.{pow-mono}
-use lib.Ieee.{Float, binary64, add, mul, le}
+use lib.Ieee.{Float, le}
+use Rattle.rounding.proofs.FromZero.{le-chain}
+use Rattle.rounding.proofs.Compare.{holds, clash}
 use Rattle.power.specs.Power.{powerOf}
-use Rattle.zero_count.specs.ZeroCount.{hundredth, fraction, rootDigits}
-use Rattle.zero_count.proofs.Fractions.{half, fraction-double, fraction-add, fraction-halve}
+use Rattle.power.proofs.Unit.{power-in-unit, power-keeps}
+use Rattle.zero_count.specs.ZeroCount.{hundredth, fraction, lowEnough, rootDigits}
+use Rattle.zero_count.specs.Bounds.{Encloses}
+use Rattle.zero_count.proofs.Fractions.{fraction-double, part-unit, part-keeps}
 
--- the fraction that a digit 1 would give
-abbrev pub trial : ℕ → ℕ → Float
-trial i n = fraction (suc i) (rootDigits i n * 2 + 1)
+-- ---- one digit more
+module _ (i n m : ℕ) (k : Encloses i n m (suc m)) where
+  deeper : (a : ℕ) (b : Bool) → lowEnough i n a ≡ b → lowEnough (suc i) n (a * 2) ≡ b
+  deeper a b h = subst (λ (x : Float). le (powerOf x n) hundredth ≡ b) (sym (fraction-double i a)) h
 
-pub digits-stay : (i n : ℕ) → le (powerOf (trial i n) n) hundredth ≡ true → rootDigits (suc i) n ≡ rootDigits i n * 2 + 1
+  room : suc m * 2 ≤ 2 ^ suc i
+  room = subst (λ (z : ℕ). suc m * 2 ≤ z) (sym (pow-suc 2 i)) (omega (arith, k .within))
+
+  stays : lowEnough (suc i) n (m * 2 + 1) ≡ true → Encloses (suc i) n (m * 2 + 1) (suc (m * 2 + 1))
+  stays h = record {
+    apart = le-refl (suc (m * 2 + 1));
+    within = subst (λ (z : ℕ). z ≤ 2 ^ suc i) (sym turn) room;
+    from = inr h;
+    to = subst (λ (z : ℕ). (z ≡ 2 ^ suc i) ⊎ (lowEnough (suc i) n z ≡ false)) (sym turn) (elim (k .to) [
+      | inl e ↦ inl (ap (λ (z : ℕ). z * 2) e ∙ sym (pow-suc 2 i))
+      | inr g ↦ inr (deeper (suc m) false g)
+    ]);
+  }
+    where
+      turn : suc (m * 2 + 1) ≡ suc m * 2
+      turn = omega arith
+
+  goes : lowEnough (suc i) n (m * 2 + 1) ≡ false → Encloses (suc i) n (m * 2) (suc (m * 2))
+  goes h = record {
+    apart = le-refl (suc (m * 2));
+    within = omega (arith, room);
+    from = elim (k .from) [ inl e ↦ inl (ap (λ (z : ℕ). z * 2) e) | inr g ↦ inr (deeper m true g) ];
+    to = inr (subst (λ (z : ℕ). lowEnough (suc i) n z ≡ false) turn h);
+  }
+    where
+      turn : m * 2 + 1 ≡ suc (m * 2)
+      turn = omega arith
+
+digit : (i n : ℕ) (b : Bool) → lowEnough (suc i) n (rootDigits i n * 2 + 1) ≡ b → Encloses i n (rootDigits i n) (suc (rootDigits i n)) → Encloses (suc i) n (rootDigits (suc i) n) (suc (rootDigits (suc i) n))
 unfolding rootDigits
-digits-stay i n e = rw e
+digit i n true e k = rw e (stays i n (rootDigits i n) k e)
+digit i n false e k = rw e (goes i n (rootDigits i n) k e)
 
-pub digits-go : (i n : ℕ) → le (powerOf (trial i n) n) hundredth ≡ false → rootDigits (suc i) n ≡ rootDigits i n * 2
+pub digits-enclosed : (i n : ℕ) → Encloses i n (rootDigits i n) (suc (rootDigits i n))
 unfolding rootDigits
-digits-go i n e = rw e
+digits-enclosed zero n = record { apart = zero-lt-suc 0; within = le-refl 1; from = inl refl; to = inl refl }
+digits-enclosed (suc i) n = digit i n (lowEnough (suc i) n (rootDigits i n * 2 + 1)) refl (digits-enclosed i n)
 
 pub digits-below : (i n : ℕ) → rootDigits i n < 2 ^ i
-unfolding rootDigits
-digits-below zero n = zero-lt-suc 0
-digits-below (suc i) n = subst (λ (z : ℕ). rootDigits (suc i) n < z) (sym (pow-suc 2 i)) (go (le (powerOf (trial i n) n) hundredth) (rootDigits i n) (2 ^ i) (digits-below i n))
+digits-below i n = digits-enclosed i n .within
+
+-- ---- what is at most a number that is low enough is low enough
+low-below : (n a b : ℕ) → a ≤ b → b ≤ 2 ^ 52 → lowEnough 52 n b ≡ true → lowEnough 52 n a ≡ false → ⊥
+low-below n a b h l e g =
+    let u = part-unit a (omega arith) in
+    let v = part-unit b l in
+    clash (lowEnough 52 n a)
+    (le-chain (powerOf (fraction 52 a) n) (powerOf (fraction 52 b) n) hundredth (power-in-unit (fraction 52 a) u n .finite) (power-in-unit (fraction 52 b) v n .finite) tt
+    (power-keeps (fraction 52 a) (fraction 52 b) u v (part-keeps a b h) n) (holds (lowEnough 52 n b) e))
+    g
+
+-- so bounds next to each other are the only ones
+ordered : (n a b : ℕ) → Encloses 52 n a (suc a) → Encloses 52 n b (suc b) → a < b → ⊥
+ordered n a b p q l = go (p .to) (q .from)
   where
-    go : (b : Bool) (m t : ℕ) → m < t → cond b (m * 2 + 1) (m * 2) < t * 2
-    go true m t h = omega arith
-    go false m t h = omega arith
+    go : (suc a ≡ 2 ^ 52) ⊎ (lowEnough 52 n (suc a) ≡ false) → (b ≡ 0) ⊎ (lowEnough 52 n b ≡ true) → ⊥
+    go (inl e) d = omega (arith, q .within)
+    go (inr g) (inl e) = omega arith
+    go (inr g) (inr h) = low-below n (suc a) b l (le-of-lt (q .within)) h g
 
--- ---- the code's values after i rounds
-pub record Found (n : ℕ) (q step : Float) (i : ℕ) : Type 0 where
-  pub few : i ≤ 52
-  pub root : q ≡ fraction i (rootDigits i n)
-  pub unit : step ≡ fraction (suc i) 1
-
-pub found-first : (n : ℕ) (q step : Float) → q ≡ fraction 0 0 → step ≡ fraction 1 1 → Found n q step 0
-unfolding rootDigits
-found-first n q step e g = record { few = lit≤ tt; root = e; unit = g }
-
-module _ (n : ℕ) (q step : Float) (i : ℕ) (f : Found n q step i) (l : i < 52) where
-  deep : suc i ≤ 1074
-  deep = omega arith
-
-  small : rootDigits i n < 2 ^ 53
-  small = lt-of-lt-of-le (digits-below i n) (pow-mono (far l))
-    where
-      far : {i : ℕ} → i < 52 → i ≤ 53
-      far h = omega arith
-
-  -- the sum that is tried
-  pub sum-is : add binary64 q step ≡ trial i n
-  sum-is = ap (λ (z : Float). add binary64 z step) (f .root) ∙ ap (add binary64 (fraction i (rootDigits i n))) (f .unit) ∙ fraction-add i deep (rootDigits i n) small
-
-  halved : mul binary64 step half ≡ fraction (suc (suc i)) 1
-  halved = ap (λ (z : Float). mul binary64 z half) (f .unit) ∙ fraction-halve i deep
-
-  one-more : suc i ≡ i + 1
-  one-more = omega arith
-
-  next : (q' : Float) → q' ≡ fraction (suc i) (rootDigits (suc i) n) → Found n q' (mul binary64 step half) (i + 1)
-  next q' e = subst (Found n q' (mul binary64 step half)) one-more (record { few = l; root = e; unit = halved })
-
-  pub found-stay : le (powerOf (add binary64 q step) n) hundredth ≡ true → Found n (add binary64 q step) (mul binary64 step half) (i + 1)
-  found-stay e = next (add binary64 q step) (sum-is ∙ ap (fraction (suc i)) (sym (digits-stay i n (subst (λ (z : Float). le (powerOf z n) hundredth ≡ true) sum-is e))))
-
-  pub found-go : le (powerOf (add binary64 q step) n) hundredth ≡ false → Found n q (mul binary64 step half) (i + 1)
-  found-go e =
-      next q (f .root ∙ sym (fraction-double i (rootDigits i n)) ∙ ap (fraction (suc i)) (sym (digits-go i n (subst (λ (z : Float). le (powerOf z n) hundredth ≡ false) sum-is e))))
+pub enclosed-digits : (n m : ℕ) → Encloses 52 n m (suc m) → m ≡ rootDigits 52 n
+enclosed-digits n m p =
+    let q = digits-enclosed 52 n in
+    le-antisymm (below (rootDigits 52 n) m (ordered n (rootDigits 52 n) m q p)) (below m (rootDigits 52 n) (ordered n m (rootDigits 52 n) p q))
+  where
+    below : (a b : ℕ) → (a < b → ⊥) → b ≤ a
+    below a b h = omega arith

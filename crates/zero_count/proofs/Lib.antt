@@ -1,6 +1,6 @@
 pub mod Fractions
 pub mod Digits
+pub mod Search
 pub mod Cases
 pub mod Range
-pub mod PowerError
 pub mod Accuracy

@@ -1,1 +1,2 @@
 pub mod ZeroCount
+pub mod Bounds

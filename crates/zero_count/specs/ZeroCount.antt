@@ -1,7 +1,7 @@
 -- p_global' where no prediction was right: "with none right it is 1 - 0.01^(1/N). N = 0 gives 1." Definitions only.
 -- The N-th root of 0.01 is found by its binary digits: m / 2 ^ i is the largest fraction of i digits whose N-th power, as `power` rounds it, is at most 0.01.
 use Prim.Native.Nat.{ℕ, zero, suc, _+_, _-_, _*_, _^_, _≤_}
-use mathlib.Core.Bool.{false, cond}
+use mathlib.Core.Bool.{Bool, false, cond}
 use lib.IntN.{negsuc, pos}
 use lib.Dec.{eqb}
 use lib.Ieee.{Float, fin, binary64, round, le}
@@ -23,11 +23,15 @@ places = 52
 unfoldable pub fraction : ℕ → ℕ → Float
 fraction i m = round binary64 false m (2 ^ i)
 
+-- whether the n-th power of m / 2 ^ i, as `power` rounds it, is at most 0.01
+abbrev pub lowEnough : ℕ → ℕ → ℕ → Bool
+lowEnough i n m = le (powerOf (fraction i m) n) hundredth
+
 -- the first i digits of the root, as a number: one more is 1 where the power of the fraction that it gives is at most 0.01
 unfoldable pub rootDigits : ℕ → ℕ → ℕ
 unfolding fraction
 rootDigits zero n = 0
-rootDigits (suc i) n = let m = rootDigits i n * 2 in cond (le (powerOf (fraction (suc i) (m + 1)) n) hundredth) (m + 1) m
+rootDigits (suc i) n = let m = rootDigits i n * 2 in cond (lowEnough (suc i) n (m + 1)) (m + 1) m
 
 -- 1 less the root, which is exact
 unfoldable pub zeroCountBound : ℕ → Float

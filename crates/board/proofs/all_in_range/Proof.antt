@@ -1,5 +1,5 @@
 -- `board::all_in_range` meets its contract. Assumes nothing.
-use Rattle.board.specs.Board.{refusalOf, inRange, entry, smaller, perSymbol, refusal, allInRange, smallest, figureOf}
+use Rattle.board.specs.Board.{allInRange}
 use lib.Ieee.{ofBits}
 use borrow.Author.Needs.{needs}
 use Rattle.board.proofs.all_in_range.Statement.{statement}

@@ -1,9 +1,7 @@
-use Prim.Native.Nat.{ℕ}
-use Rattle.board.specs.Board.{refusedFigure}
 -- `board::board_figure` meets its contract. A refusal comes first, then an entropy out of range. Assumes nothing.
-use Rattle.board.specs.Board.{refusalOf, inRange, entry, smaller, perSymbol, refusal, allInRange, smallest, figureOf}
-use borrow.Author.Tests.{eq-eqb, ne-eqb, le-leb, lt-leb}
-use mathlib.Core.Path.{ap, sym, _∙_}
+use Rattle.board.specs.Board.{figureOf}
+use borrow.Author.Tests.{eq-eqb, ne-eqb}
+use mathlib.Core.Path.{sym, _∙_}
 use borrow.Author.Needs.{needs}
 use Rattle.board.proofs.board_figure.Statement.{statement}
 use Rattle.board.proofs.board_figure.Tie as tie

@@ -1,6 +1,6 @@
 -- `board::entry_of` meets its contract. Assumes nothing.
-use Rattle.board.specs.Board.{refusalOf, inRange, entry, smaller, perSymbol, refusal, allInRange, smallest, figureOf}
-use borrow.Author.Tests.{eq-eqb, ne-eqb, le-leb, lt-leb}
+use Rattle.board.specs.Board.{entry}
+use borrow.Author.Tests.{eq-eqb, ne-eqb}
 use borrow.Author.Needs.{needs}
 use Rattle.board.proofs.entry_of.Statement.{statement}
 use Rattle.board.proofs.entry_of.Tie as tie

@@ -1,5 +1,5 @@
 -- `board::first_of` meets its contract. Assumes nothing.
-use borrow.Author.Tests.{eq-eqb, ne-eqb, le-leb, lt-leb}
+use borrow.Author.Tests.{eq-eqb, ne-eqb}
 use Rattle.board.proofs.first_of.Statement.{statement}
 use Rattle.board.proofs.first_of.Tie as tie
 

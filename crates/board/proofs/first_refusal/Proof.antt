@@ -1,5 +1,5 @@
 -- `board::first_refusal` meets its contract. Assumes nothing.
-use Rattle.board.specs.Board.{refusalOf, inRange, entry, smaller, perSymbol, refusal, allInRange, smallest, figureOf}
+use Rattle.board.specs.Board.{refusal}
 use borrow.Author.Needs.{needs}
 use Rattle.board.proofs.first_refusal.Statement.{statement}
 use Rattle.board.proofs.first_refusal.Tie as tie

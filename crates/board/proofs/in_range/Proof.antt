@@ -1,6 +1,6 @@
 -- `board::in_range` meets its contract. An answer that did not run has no entropy to ask of. Assumes nothing.
-use Rattle.board.specs.Board.{refusalOf, inRange, entry, smaller, perSymbol, refusal, allInRange, smallest, figureOf}
-use borrow.Author.Tests.{eq-eqb, ne-eqb, le-leb, lt-leb}
+use Rattle.board.specs.Board.{inRange}
+use borrow.Author.Tests.{eq-eqb, ne-eqb}
 use lib.Ieee.{ofBits}
 use Rattle.board.proofs.in_range.Statement.{statement}
 use Rattle.board.proofs.in_range.Tie as tie

@@ -1,5 +1,5 @@
 -- `board::per_symbol` meets its contract. Assumes nothing.
-use Rattle.board.specs.Board.{refusalOf, inRange, entry, smaller, perSymbol, refusal, allInRange, smallest, figureOf}
+use Rattle.board.specs.Board.{perSymbol}
 use borrow.Author.Needs.{needs}
 use Rattle.board.proofs.per_symbol.Statement.{statement}
 use Rattle.board.proofs.per_symbol.Tie as tie

@@ -1,5 +1,5 @@
 -- `board::refusal_of` meets its contract. 0 and 6 are no refusals, and a number above 6 is not given yet. Assumes nothing.
-use Rattle.board.specs.Board.{refusalOf, inRange, entry, smaller, perSymbol, refusal, allInRange, smallest, figureOf}
+use Rattle.board.specs.Board.{refusalOf}
 use borrow.Author.Tests.{eq-eqb, ne-eqb, le-leb, lt-leb}
 use Rattle.board.proofs.refusal_of.Statement.{statement}
 use Rattle.board.proofs.refusal_of.Tie as tie

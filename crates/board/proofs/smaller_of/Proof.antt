@@ -1,6 +1,6 @@
 -- `board::smaller_of` meets its contract. The second is taken only where it ran and is smaller, or alone ran. Assumes nothing.
-use Rattle.board.specs.Board.{refusalOf, inRange, entry, smaller, perSymbol, refusal, allInRange, smallest, figureOf}
-use borrow.Author.Tests.{eq-eqb, ne-eqb, le-leb, lt-leb}
+use Rattle.board.specs.Board.{smaller}
+use borrow.Author.Tests.{eq-eqb, ne-eqb}
 use Rattle.board.proofs.smaller_of.Statement.{statement}
 use Rattle.board.proofs.smaller_of.Tie as tie
 

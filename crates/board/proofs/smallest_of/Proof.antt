@@ -1,6 +1,6 @@
 use mathlib.Core.Path.{_∙_}
 -- `board::smallest_of` meets its contract. Assumes nothing.
-use Rattle.board.specs.Board.{refusalOf, inRange, entry, smaller, perSymbol, refusal, allInRange, smallest, figureOf}
+use Rattle.board.specs.Board.{smallest}
 use borrow.Author.Needs.{needs}
 use Rattle.board.proofs.smallest_of.Statement.{statement}
 use Rattle.board.proofs.smallest_of.Tie as tie

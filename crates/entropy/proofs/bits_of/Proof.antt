@@ -10,8 +10,6 @@ use Rattle.entropy.specs.Entropy.{bitsOf}
 use Rattle.entropy.proofs.ReportedValue.{bits-of-none, bits-of-product}
 use Rattle.entropy.proofs.bits_of.Statement.{statement}
 use Rattle.entropy.proofs.bits_of.Tie as tie
-use Rattle.entropy.proofs.bits_of.Reads as reads
-use Rattle.entropy.proofs.bits_of.Lts as lts
 
 returns : tie.Need-returns
 unfolding ofBits neg

@@ -5,8 +5,6 @@ use lib.Ieee.{ofBits}
 use Rattle.entropy.proofs.Rounds.{Doubling, doubling-first, doubling-next, doubling-at-one, doubling-at-eight}
 use Rattle.entropy.proofs.doubled.Statement.{statement}
 use Rattle.entropy.proofs.doubled.Tie as tie
-use Rattle.entropy.proofs.doubled.Reads as reads
-use Rattle.entropy.proofs.doubled.Lts as lts
 
 abbrev Inv-loop : tie.InvT-loop
 Inv-loop p x₀ j₀ x j = Doubling p x j

@@ -11,10 +11,6 @@ use Rattle.entropy.proofs.Rounds.{doublings-few, digits-below}
 use Rattle.entropy.proofs.Cases.{units-at-power, units-between}
 use Rattle.entropy.proofs.entropy_units.Statement.{statement}
 use Rattle.entropy.proofs.entropy_units.Tie as tie
-use Rattle.entropy.proofs.entropy_units.Reads as reads
-use Rattle.entropy.proofs.entropy_units.Lts as lts
-use Rattle.entropy.proofs.doubled.Reads as doubled-reads
-use Rattle.entropy.proofs.log_units.Reads as log-units-reads
 
 -- ---- the cases, at whatever the callees returned
 at-power : (p x : Float) (j : ℕ) → (x ≡ leading p) × (j ≡ wholeBits p) → eq x one ≡ true → j * 16777216 ≡ entropyUnits p

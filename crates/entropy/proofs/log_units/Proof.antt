@@ -8,8 +8,6 @@ use Rattle.entropy.specs.Entropy.{half, logDigits}
 use Rattle.entropy.proofs.Rounds.{Squaring, squaring-first, squaring-high, squaring-low, squaring-room}
 use Rattle.entropy.proofs.log_units.Statement.{statement}
 use Rattle.entropy.proofs.log_units.Tie as tie
-use Rattle.entropy.proofs.log_units.Reads as reads
-use Rattle.entropy.proofs.log_units.Lts as lts
 
 abbrev Inv-loop : tie.InvT-loop
 Inv-loop start x₀ bits₀ i₀ x bits i = Squaring start x bits i

@@ -9,11 +9,6 @@ use Rattle.entropy.specs.Entropy.{bitsOf, entropyOf}
 use Rattle.entropy.proofs.Cases.{answer-in, answer-low, answer-high}
 use Rattle.entropy.proofs.min_entropy.Statement.{statement}
 use Rattle.entropy.proofs.min_entropy.Tie as tie
-use Rattle.entropy.proofs.min_entropy.Reads as reads
-use Rattle.entropy.proofs.min_entropy.Lts as lts
-use Rattle.answer.proofs.refused_value.Reads as refused-value-reads
-use Rattle.entropy.proofs.bits_of.Reads as bits-of-reads
-use Rattle.entropy.proofs.entropy_units.Reads as entropy-units-reads
 
 entropy-units-requires : tie.Need-entropy-units-requires
 entropy-units-requires c κs = search needs

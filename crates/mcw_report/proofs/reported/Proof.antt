@@ -8,7 +8,6 @@ use borrow.Author.Needs.{needs}
 use borrow.Author.Tests.{lt-ltb, le-ltb}
 use Rattle.answer.specs.Numbers.{tooLong}
 use Rattle.answer.specs.Refused.{refused}
-use Rattle.answer.specs.declared.Answer.{Answer}
 use Rattle.multi_mcw.specs.Tracks.{mcwLiteral, mcwLiteralOutput}
 use Rattle.mcw_report.specs.Report.{reportLimit, reportOf, reportOutput}
 use Rattle.mcw_report.proofs.reported.Statement.{statement}

@@ -1,11 +1,11 @@
 -- `multi_mcw` meets its contract. Each refusal comes by its own test, in the order of the definition, and else the estimate is that of the counts over the bits. Assumes nothing.
-use mathlib.Core.Path.{_≡_, sym, ap, _∙_}
-use Prim.Native.Nat.{ℕ, _*_, _≤_, _<_}
+use mathlib.Core.Path.{_∙_}
+use Prim.Native.Nat.{_≤_}
 use native.Mathlib.Omega.{arith}
 use borrow.Author.Needs.{needs}
 use denote.Ref.{now}
 use lib.ListN.{length}
-use Rattle.capture.specs.Limit.{symbolLimit, widthOf}
+use Rattle.capture.specs.Limit.{symbolLimit}
 use Rattle.capture.proofs.Clamping.{width-least, width-most, bits-small}
 use Rattle.multi_mcw.proofs.Answers.{bits-too-long, bits-not-run, bits-too-wide, bits-done}
 use Rattle.multi_mcw.proofs.multi_mcw.Statement.{statement}

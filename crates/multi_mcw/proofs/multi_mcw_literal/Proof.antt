@@ -1,8 +1,7 @@
 -- `multi_mcw_literal` meets its contract. Each refusal comes by its own test, in the order of the definition, and leaves the output as it was;
 -- else the output begins with the translated symbols, over which the counts are taken. Assumes nothing.
-use mathlib.Core.Path.{_≡_, refl, sym, ap, _∙_}
-use mathlib.Core.List.{List}
-use Prim.Native.Nat.{ℕ, _*_, _≤_, _<_}
+use mathlib.Core.Path.{_≡_, sym, ap, _∙_}
+use Prim.Native.Nat.{_≤_}
 use native.Mathlib.Omega.{arith}
 use borrow.Author.Needs.{needs}
 use denote.Ref.{now}

@@ -1,7 +1,6 @@
 -- `multi_mmc::multi_mmc` meets its contract. Each return is a case of the answer's definition, in the order 1, 6, 2, 3, and then the race over the bits.
 -- Assumes nothing.
 use native.Mathlib.Omega.{arith}
-use mathlib.Core.Path.{_∙_}
 use Rattle.capture.specs.Limit.{symbolLimit}
 use Rattle.capture.proofs.Clamping.{bits-small}
 use Rattle.mmc_bits.specs.Space.{size}

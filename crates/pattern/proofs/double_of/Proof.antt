@@ -1,9 +1,9 @@
 -- `pattern::double_of` meets its contract. A pattern is a NaN's where what is left of it without its sign lies above the infinity's.
 -- Assumes nothing.
-use mathlib.Core.Path.{_≡_, refl, sym, ap, _∙_, subst}
+use mathlib.Core.Path.{_≡_, refl, sym, _∙_, subst}
 use mathlib.Core.Bool.{Bool, true, false, not}
 use Prim.Native.Nat.{ℕ, _%_, _<_, _≤_}
-use lib.Dec.{T, ltb}
+use lib.Dec.{T}
 use lib.Ieee.{Float, nan, inf, fin, binary64, isNan, nanBits, ofBits, div}
 use lib.Ieee.Bits.{nanBits-is, nanBits-above}
 use borrow.Author.Needs.{needs}

@@ -1,6 +1,6 @@
 -- `prediction::impossible_counts` meets its contract. It goes through the tests in the order of document 01. Assumes nothing.
-use borrow.Author.Tests.{lt-ltb, le-ltb, eq-eqb, ne-eqb}
-use Rattle.prediction.specs.Counts.{countLimit, impossibleCounts, impossibleRun, outside}
+use borrow.Author.Tests.{lt-ltb, le-ltb}
+use Rattle.prediction.specs.Counts.{impossibleCounts}
 use mathlib.Core.Path.{sym, _∙_}
 use borrow.Author.Needs.{needs}
 use Rattle.prediction.proofs.impossible_counts.Statement.{statement}

@@ -1,6 +1,6 @@
 -- `prediction::impossible_run` meets its contract. It goes through the two tests in order. Assumes nothing.
-use borrow.Author.Tests.{lt-ltb, le-ltb, eq-eqb, ne-eqb}
-use Rattle.prediction.specs.Counts.{countLimit, impossibleCounts, impossibleRun, outside}
+use borrow.Author.Tests.{lt-ltb, le-ltb}
+use Rattle.prediction.specs.Counts.{countLimit, impossibleRun}
 use Rattle.prediction.proofs.impossible_run.Statement.{statement}
 use Rattle.prediction.proofs.impossible_run.Tie as tie
 

@@ -1,6 +1,6 @@
 -- `prediction::impossible_size` meets its contract. It goes through the three tests in order. Assumes nothing.
-use borrow.Author.Tests.{lt-ltb, le-ltb, eq-eqb, ne-eqb}
-use Rattle.prediction.specs.Counts.{countLimit, impossibleCounts, impossibleRun, outside}
+use borrow.Author.Tests.{lt-ltb, le-ltb}
+use Rattle.prediction.specs.Counts.{countLimit}
 use Rattle.prediction.proofs.impossible_size.Statement.{statement}
 use Rattle.prediction.proofs.impossible_size.Tie as tie
 

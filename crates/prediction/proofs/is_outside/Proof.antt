@@ -1,5 +1,5 @@
 -- `prediction::is_outside` meets its contract. Every comparison with a NaN is false, so a NaN is outside. Assumes nothing.
-use Rattle.prediction.specs.Counts.{countLimit, impossibleCounts, impossibleRun, outside}
+use Rattle.prediction.specs.Counts.{outside}
 use lib.Ieee.{ofBits}
 use Rattle.prediction.proofs.is_outside.Statement.{statement}
 use Rattle.prediction.proofs.is_outside.Tie as tie

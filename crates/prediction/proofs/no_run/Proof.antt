@@ -1,5 +1,5 @@
 -- `prediction::no_run` meets its contract. Without a hit there is nothing to ask of the run. Assumes nothing.
-use borrow.Author.Tests.{lt-ltb, le-ltb, eq-eqb, ne-eqb}
+use borrow.Author.Tests.{lt-ltb, le-ltb}
 use Rattle.prediction.proofs.no_run.Statement.{statement}
 use Rattle.prediction.proofs.no_run.Tie as tie
 

@@ -1,7 +1,6 @@
 -- `replay::replay` is safe and ends: every case that is counted has a size above 0 and within what is left of the list,
 -- which is the measure. Assumes nothing.
 use Prim.Native.Nat.{_≤_, _-_}
-use native.Mathlib.Omega.{arith}
 use lib.ListN.{length}
 use borrow.Author.Needs.{needs}
 use Rattle.replay.proofs.replay.Statement.{statement}

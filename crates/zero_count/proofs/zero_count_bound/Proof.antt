@@ -1,34 +1,38 @@
--- `zero_count::zero_count_bound` meets its contract: 1 less the root of 52 digits is again a fraction over 2 ^ 52, so the difference is exact. Assumes nothing.
+-- `zero_count::zero_count_bound` meets its contract: the digits found are the root's, and 1 less the root is as many parts of 2 ^ 52 as the root leaves. Assumes nothing.
 use borrow.Author.Needs.{needs}
 use mathlib.Core.Path.{sym, ap, _∙_}
-use Prim.Native.Nat.{ℕ, _≤_, _<_}
+use Prim.Native.Nat.{ℕ, _-_, _^_}
 use native.Mathlib.Omega.{arith}
-use lib.Ieee.{binary64, sub, ofBits}
-use Rattle.zero_count.specs.ZeroCount.{one, zeroCountBound, rootDigits}
-use Rattle.zero_count.proofs.Fractions.{fraction-complement}
+use lib.Ieee.{ofBits}
+use Rattle.zero_count.specs.ZeroCount.{fraction, zeroCountBound}
 use Rattle.zero_count.proofs.Digits.{digits-below}
 use Rattle.zero_count.proofs.Cases.{bound-of-none, bound-of-some}
 use Rattle.zero_count.proofs.zero_count_bound.Statement.{statement}
 use Rattle.zero_count.proofs.zero_count_bound.Tie as tie
-use Rattle.zero_count.proofs.zero_count_bound.Reads as reads
-use Rattle.zero_count.proofs.zero_count_bound.Lts as lts
-use Rattle.zero_count.proofs.hundredth_root.Reads as hundredth-root-reads
 
 returns : tie.Need-returns
 unfolding ofBits
 returns c = sym bound-of-none ∙ ap zeroCountBound (sym (c .if1 .taken))
 
-hundredth-root-requires : tie.Need-hundredth-root-requires
-hundredth-root-requires c κs = search needs
+guess-requires : tie.Need-guess-requires
+guess-requires c κs = search needs
+
+enclose-requires : tie.Need-enclose-requires
+enclose-requires c κs = search needs
+
+narrow-requires : tie.Need-narrow-requires
+narrow-requires c κs = search needs
+
+sub-part : tie.Need-sub-part
+sub-part c = omega (arith, c .narrow .ensures, digits-below 52 (c .before .before .before .before .args .n))
+
+part-requires : tie.Need-part-requires
+part-requires c κs = search needs
 
 returns-2 : tie.Need-returns-2
-unfolding ofBits
 returns-2 c =
-    let n = c .before .before .args .n in
-    ap (sub binary64 one) (c .hundredth-root .ensures) ∙ fraction-complement (rootDigits 52 n) (weak (digits-below 52 n)) ∙ sym (bound-of-some n (c .before .if1 .left))
-  where
-    weak : {a b : ℕ} → a < b → a ≤ b
-    weak h = omega arith
+    let n = c .before .before .before .before .before .args .n in
+    c .part .ensures ∙ ap (λ (m : ℕ). fraction 52 (2 ^ 52 - m)) (c .before .narrow .ensures) ∙ sym (bound-of-some n (c .before .before .before .before .if1 .left))
 
 pub zero-count-bound-spec : {M : Type 1} → statement M
-zero-count-bound-spec = tie.close (tie.spec returns hundredth-root-requires returns-2)
+zero-count-bound-spec = tie.close (tie.spec returns guess-requires enclose-requires narrow-requires sub-part part-requires returns-2)

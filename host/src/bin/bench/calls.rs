@@ -141,12 +141,13 @@ fn timed(input: [u64; 4]) -> Timed {
     }
 }
 
-/// Seconds of the quickest of some calls.
+/// Seconds of a call in the quickest of some rows of calls.
 fn quick(mut call: impl FnMut()) -> f64 {
+    const ROW: u32 = 8;
     let times = (0..15).map(|_| {
         let start = std::time::Instant::now();
-        call();
-        start.elapsed().as_secs_f64()
+        (0..ROW).for_each(|_| call());
+        start.elapsed().as_secs_f64() / f64::from(ROW)
     });
     times.fold(f64::INFINITY, f64::min)
 }
@@ -163,8 +164,41 @@ fn rust_estimate(_: u64, _: u64, _: u64, _: u64) -> Option<f64> {
     None
 }
 
-/// Counts of every size, the runs short, usual and long.
 fn inputs() -> Vec<[u64; 4]> {
+    let mut inputs = small();
+    inputs.extend(at_limits());
+    inputs.extend(spread());
+    inputs
+}
+
+/// Every count to N = 40.
+fn small() -> Vec<[u64; 4]> {
+    let mut inputs = Vec::new();
+    for n in 0..=40 {
+        for c in 0..=n {
+            for run in c.min(1)..=c {
+                inputs.extend([1, 2, 256].map(|k| [c, n, run, k]));
+            }
+        }
+    }
+    inputs
+}
+
+/// The ends of the counts and of the runs at the largest N of the tracks and of the estimate.
+fn at_limits() -> Vec<[u64; 4]> {
+    let mut inputs = Vec::new();
+    for n in [16_777_215, 16_777_216, 134_217_728] {
+        for c in [0, 1, n / 2, n - 1, n] {
+            for run in [1, c / 2, c] {
+                inputs.extend([1, 2, 256].map(|k| [c, n, run.clamp(c.min(1), c), k]));
+            }
+        }
+    }
+    inputs
+}
+
+/// Counts of every size, the runs short, usual and long.
+fn spread() -> Vec<[u64; 4]> {
     let mut inputs = Vec::new();
     for n in [40, 4_033, 100_000, 999_998, 8_000_000, 134_217_728] {
         for part in [0, 1, 16, 64, 128, 192, 240, 255] {

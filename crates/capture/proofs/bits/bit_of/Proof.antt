@@ -3,7 +3,6 @@ use mathlib.Core.Path.{_∙_}
 use borrow.Author.Needs.{needs}
 use native.Mathlib.Nat.{mod-lt}
 use native.Mathlib.Omega.{arith}
-use Rattle.capture.specs.Bits.{bitAt}
 use Rattle.capture.proofs.Walking.{spot-bit, spot-inside}
 use Rattle.capture.proofs.bits.bit_of.Statement.{statement}
 use Rattle.capture.proofs.bits.bit_of.Tie as tie

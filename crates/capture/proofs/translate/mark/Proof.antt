@@ -1,12 +1,11 @@
--- `capture::translate::mark` meets its contract. The values of the symbols passed are marked, and no others. Assumes nothing.
+-- `capture::translate::mark` meets its contract. The values of the symbols passed are marked, and no others, and `mark_rest` marks those of the symbols left. Assumes nothing.
 use mathlib.Core.Path.{subst, sym}
 use mathlib.Core.List.{[]}
 use Prim.Native.Nat.{_≤_, _-_}
-use borrow.Author.Needs.{needs}
 use native.Mathlib.Omega.{arith}
-use lib.ListN.{length, take, getD, set}
+use lib.ListN.{length, take}
 use Rattle.capture.specs.Numbering.{Holds, markIn}
-use Rattle.capture.proofs.Tables.{holds-all, marks-start, marks-next}
+use Rattle.capture.proofs.Tables.{marks-start}
 use Rattle.capture.proofs.translate.mark.Statement.{statement}
 use Rattle.capture.proofs.translate.mark.Tie as tie
 
@@ -19,14 +18,11 @@ abbrev μ-loop : tie.MeasureT-loop
 loop-holds : tie.Need-loop-holds Inv-loop μ-loop
 loop-holds c = (omega arith, subst (Holds (markIn [])) (sym (c .before .pre)) marks-start)
 
-shared-slice-read-wide : tie.Need-shared-slice-read-wide Inv-loop μ-loop
-shared-slice-read-wide c = omega arith
+sub-loop : tie.Need-sub-loop Inv-loop μ-loop
+sub-loop c = omega arith
 
-wide-requires : tie.Need-wide-requires Inv-loop μ-loop
-wide-requires c κs = search needs
-
-element-write-marks : tie.Need-element-write-marks Inv-loop μ-loop
-element-write-marks c = omega (arith, c .wide .ensures, c .before .shared-slice-known2 .given (c .before .before .before .loop .i))
+mark-four-requires : tie.Need-mark-four-requires Inv-loop μ-loop
+mark-four-requires c κs = (omega arith, c .before .before .loop .inv .1)
 
 add-i : tie.Need-add-i Inv-loop μ-loop
 add-i c = omega arith
@@ -35,11 +31,13 @@ loop-less : tie.Need-loop-less Inv-loop μ-loop
 loop-less c = omega arith
 
 loop-again : tie.Need-loop-again Inv-loop μ-loop
-loop-again c =
-    (omega arith, marks-next (c .before .before .before .before .before .args .symbols .now) (c .before .before .before .loop .i) (c .before .before .loop-test .taken) (c .wide .ensures) (omega (arith, c .wide .ensures, c .before .shared-slice-known2 .given (c .before .before .before .loop .i))) (c .before .before .before .loop .inv .1))
+loop-again c = (omega arith, c .mark-four .ensures)
+
+mark-rest-requires : tie.Need-mark-rest-requires Inv-loop μ-loop
+mark-rest-requires c κs = c .before .before .loop .inv
 
 returns : tie.Need-returns Inv-loop μ-loop
-returns c = holds-all markIn (c .before .before .before .args .symbols .now) (c .before .loop .i) (omega arith) (c .before .loop .inv .1)
+returns c = c .mark-rest .ensures
 
 pub mark-spec : {M : Type 1} → statement M
 mark-spec =
@@ -48,10 +46,10 @@ mark-spec =
     Inv-loop
     μ-loop
     loop-holds
-    shared-slice-read-wide
-    wide-requires
-    element-write-marks
+    sub-loop
+    mark-four-requires
     add-i
     loop-less
     loop-again
+    mark-rest-requires
     returns)

@@ -2,12 +2,12 @@
 -- Assumes nothing.
 use Rattle.capture.specs.Alphabet.{firstSight}
 use Rattle.capture.proofs.Tables.{Entered, entered-start, entered-next, entered-number, entered-small, entered-all, entered-le}
-use Rattle.capture.proofs.Writing.{partly, partly-start, partly-step, partly-end, partly-length, around}
+use Rattle.capture.proofs.Writing.{partly, partly-step, partly-end, partly-length}
 use Prim.Native.Nat.{_≤_, _-_}
 use mathlib.Core.Path.{_≡_, refl, ap, _∙_}
 use borrow.Author.Needs.{needs}
 use native.Mathlib.Omega.{arith}
-use lib.ListN.{length, take, getD, set}
+use lib.ListN.{length, take}
 use Rattle.capture.proofs.translate.number_by_sight.Statement.{statement}
 use Rattle.capture.proofs.translate.number_by_sight.Tie as tie
 

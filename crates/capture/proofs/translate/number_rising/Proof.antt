@@ -3,9 +3,7 @@ use Rattle.capture.specs.Numbering.{sumBelow}
 use Rattle.capture.proofs.Tables.{Summed, sum-none, summed-start, summed-step, summed-end, sum-next}
 use Prim.Native.Nat.{_≤_, _-_}
 use mathlib.Core.Path.{_≡_, ap, sym, _∙_}
-use borrow.Author.Needs.{needs}
 use native.Mathlib.Omega.{arith}
-use lib.ListN.{length, take, getD, set}
 use Rattle.capture.proofs.translate.number_rising.Statement.{statement}
 use Rattle.capture.proofs.translate.number_rising.Tie as tie
 

@@ -1,12 +1,12 @@
 -- `capture::translate::renumber` meets its contract. Each symbol is written as the number that the table gives its value. Assumes nothing.
 use Rattle.capture.specs.Alphabet.{rising}
-use Rattle.capture.proofs.Writing.{partly, partly-start, partly-step, partly-end, partly-length}
+use Rattle.capture.proofs.Writing.{partly, partly-step, partly-end, partly-length}
 use Prim.Native.Nat.{_≤_, _-_}
 use mathlib.Core.Path.{_≡_, refl, ap, _∙_}
 use Rattle.capture.proofs.Tables.{rising-at}
 use borrow.Author.Needs.{needs}
 use native.Mathlib.Omega.{arith}
-use lib.ListN.{length, take, getD, set}
+use lib.ListN.{length}
 use Rattle.capture.proofs.translate.renumber.Statement.{statement}
 use Rattle.capture.proofs.translate.renumber.Tie as tie
 

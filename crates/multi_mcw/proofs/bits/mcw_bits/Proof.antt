@@ -1,11 +1,10 @@
 -- `bits::mcw_bits` meets its contract. Before bit i each window has the number of its ones, the ring the latest bits, and the spot is that of bit i;
 -- the standing and the counts are those of the race over the places before i. Assumes nothing.
-use Prim.Native.Nat.{ℕ, _≤_, _<_, _+_, _-_, _%_}
+use Prim.Native.Nat.{_≤_, _<_, _+_, _-_}
 use mathlib.Core.Path.{_≡_, refl, sym, ap, _∙_}
-use mathlib.Core.List.{List}
 use native.Mathlib.Omega.{arith}
 use denote.Ref.{now}
-use lib.ListN.{length, getD, set}
+use lib.ListN.{length, getD}
 use Rattle.capture.specs.Bits.{bitsOf}
 use Rattle.capture.specs.Spots.{spotOf}
 use Rattle.capture.proofs.Bitstring.{bits-length}

@@ -1,11 +1,10 @@
 -- `literal::mcw_symbols` meets its contract. Before place i each window has the keys of its samples and the symbol with the largest, which is what the definition says it says;
 -- the standing and the counts are those of the race over the places before i. Assumes nothing.
-use Prim.Native.Nat.{ℕ, _≤_, _<_, _+_, _-_}
-use mathlib.Core.Path.{_≡_, refl, sym, ap, _∙_}
-use mathlib.Core.List.{List}
+use Prim.Native.Nat.{_≤_, _<_, _+_, _-_}
+use mathlib.Core.Path.{_≡_, refl, sym, ap}
 use native.Mathlib.Omega.{arith}
 use denote.Ref.{now}
-use lib.ListN.{length, getD}
+use lib.ListN.{length}
 use Rattle.race.specs.Held.{counterLimit}
 use Rattle.multi_mcw.specs.Keys.{AllKept}
 use Rattle.multi_mcw.proofs.Place.{RacedAt, mcw-starts, mcw-winner, mcw-scores, mcw-countable, mcw-leadable, mcw-step, mcw-counts, sayings-heard, kept-symbols, all-start}

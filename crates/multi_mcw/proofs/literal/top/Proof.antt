@@ -1,9 +1,9 @@
 -- `literal::top` meets its contract. After y keys `best` has the largest of them, which is `largest`. Assumes nothing.
 use mathlib.Core.Path.{_≡_, refl, sym, ap, _∙_}
 use mathlib.Core.Logic.{⊎-elim}
-use Prim.Native.Nat.{ℕ, _+_, _-_, _≤_, _<_}
+use Prim.Native.Nat.{ℕ, _-_, _≤_}
 use native.Mathlib.Omega.{arith}
-use lib.ListN.{length, getD}
+use lib.ListN.{getD}
 use denote.Ref.{now}
 use Rattle.multi_mcw.specs.Keys.{Top}
 use Rattle.multi_mcw.proofs.Keys.{top-first, top-takes, top-keeps}

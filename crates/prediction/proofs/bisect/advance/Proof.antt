@@ -1,5 +1,5 @@
 -- `prediction::bisect::advance` meets its contract. It goes through the three checks in order. Assumes nothing.
-use Rattle.prediction.specs.Bisection.{advanced, checked, turned, halved, opening}
+use Rattle.prediction.specs.Bisection.{advanced}
 use mathlib.Core.Path.{ap, sym, _∙_}
 use mathlib.Core.Bool.{not}
 use borrow.Author.Needs.{needs}

@@ -1,5 +1,5 @@
 -- `prediction::bisect::check` meets its contract. It goes through the checks in the order of document 001. Assumes nothing.
-use Rattle.prediction.specs.Bisection.{advanced, checked, turned, halved, opening}
+use Rattle.prediction.specs.Bisection.{checked}
 use mathlib.Core.Path.{ap, sym, _∙_}
 use mathlib.Core.Bool.{not}
 use lib.Ieee.{ofBits}

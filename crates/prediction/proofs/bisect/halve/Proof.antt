@@ -1,7 +1,5 @@
 -- `prediction::bisect::halve` meets its contract. It is the definition's steps. Assumes nothing.
-use Rattle.prediction.specs.Bisection.{advanced, checked, turned, halved, opening}
-use mathlib.Core.Path.{ap, sym, _∙_}
-use mathlib.Core.Bool.{not}
+use Rattle.prediction.specs.Bisection.{halved}
 use borrow.Author.Needs.{needs}
 use Rattle.prediction.proofs.bisect.halve.Statement.{statement}
 use Rattle.prediction.proofs.bisect.halve.Tie as tie

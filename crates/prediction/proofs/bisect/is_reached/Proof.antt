@@ -1,5 +1,5 @@
 -- `prediction::bisect::is_reached` meets its contract. The constants are DBL_MIN and DBL_EPSILON. Assumes nothing.
-use mathlib.Core.Path.{ap, sym, _∙_}
+use mathlib.Core.Path.{_∙_}
 use lib.Ieee.{ofBits}
 use Rattle.prediction.specs.Bisection.{reached}
 use borrow.Author.Needs.{needs}

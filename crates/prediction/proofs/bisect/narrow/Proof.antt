@@ -1,6 +1,5 @@
 -- `prediction::bisect::narrow` meets its contract. p becomes the bound on the side where its value lies. Assumes nothing.
-use mathlib.Core.Path.{ap, sym, _∙_}
-use lib.Ieee.{lt}
+use mathlib.Core.Path.{sym}
 use Rattle.prediction.specs.Bisection.{narrowed}
 use borrow.Author.Needs.{needs}
 use Rattle.prediction.proofs.bisect.narrow.Statement.{statement}

@@ -1,9 +1,9 @@
 -- `prediction::bisect::solve` meets its contract. After i rounds those that may follow lead where the definition leads, and begin as many. Assumes nothing.
-use mathlib.Core.Path.{_≡_, ap, sym, subst, _∙_}
+use mathlib.Core.Path.{sym, _∙_}
 use Prim.Native.Nat.{_-_, _≤_}
 use borrow.Author.Needs.{needs}
 use native.Mathlib.Omega.{arith}
-use Rattle.prediction.specs.Bisection.{roundLimit, localValue, localRounds, solvedFrom}
+use Rattle.prediction.specs.Bisection.{roundLimit, localValue, localRounds}
 use Rattle.prediction.proofs.Rounds.{Underway, begun, stopped, spent, goes-on}
 use Rattle.prediction.proofs.bisect.solve.Statement.{statement}
 use Rattle.prediction.proofs.bisect.solve.Tie as tie

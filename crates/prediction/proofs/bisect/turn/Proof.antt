@@ -1,7 +1,6 @@
 -- `prediction::bisect::turn` meets its contract. It stops where the value is reached, and else narrows the bounds. Assumes nothing.
-use Rattle.prediction.specs.Bisection.{advanced, checked, turned, halved, opening}
-use mathlib.Core.Path.{ap, sym, _∙_}
-use mathlib.Core.Bool.{not}
+use Rattle.prediction.specs.Bisection.{turned}
+use mathlib.Core.Path.{sym, _∙_}
 use borrow.Author.Needs.{needs}
 use Rattle.prediction.proofs.bisect.turn.Statement.{statement}
 use Rattle.prediction.proofs.bisect.turn.Tie as tie

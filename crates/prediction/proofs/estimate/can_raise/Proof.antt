@@ -1,6 +1,6 @@
 -- `prediction::estimate::can_raise` meets its contract. The function is asked only below 1. Assumes nothing.
-use Rattle.prediction.specs.Estimate.{pGlobal, upperBound, pGlobalPrime, floorOf, canRaise, pLocal, roundsFor}
-use lib.Ieee.{ofBits, neg}
+use Rattle.prediction.specs.Estimate.{canRaise}
+use lib.Ieee.{ofBits}
 use borrow.Author.Needs.{needs}
 use Rattle.prediction.proofs.estimate.can_raise.Statement.{statement}
 use Rattle.prediction.proofs.estimate.can_raise.Tie as tie

@@ -1,5 +1,6 @@
 -- `prediction::estimate::estimated` meets its contract. Each field is what its function ensures. Assumes nothing.
 use Rattle.prediction.specs.Estimate.{largest, estimate, estimatedOf}
+use Rattle.prediction.proofs.EstimateRanges.{global-range}
 use borrow.Author.Needs.{needs}
 use Rattle.prediction.proofs.estimate.estimated.Statement.{statement}
 use Rattle.prediction.proofs.estimate.estimated.Tie as tie
@@ -8,7 +9,7 @@ p-global-requires : tie.Need-p-global-requires
 p-global-requires c κs = search needs
 
 p-global-prime-requires : tie.Need-p-global-prime-requires
-p-global-prime-requires c κs = search needs
+p-global-prime-requires c κs = let p = c .before .pre in (rw (c .p-global .ensures) (global-range _ _ (p .0) (p .2) .to), p .2)
 
 floor-of-requires : tie.Need-floor-of-requires
 floor-of-requires c κs = search needs

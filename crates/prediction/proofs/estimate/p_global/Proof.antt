@@ -1,8 +1,8 @@
 -- `prediction::estimate::p_global` meets its contract. It is the definition's quotient. Assumes nothing.
-use Rattle.prediction.specs.Estimate.{pGlobal, upperBound, pGlobalPrime, floorOf, canRaise, pLocal, roundsFor}
+use Rattle.prediction.specs.Estimate.{pGlobal}
 use Rattle.prediction.proofs.Whole.{whole-fits, limit-small}
 use native.Mathlib.Omega.{arith}
-use lib.Ieee.{ofBits, neg}
+use lib.Ieee.{ofBits}
 use borrow.Author.Tests.{eq-eqb, ne-eqb}
 use Rattle.prediction.proofs.estimate.p_global.Statement.{statement}
 use Rattle.prediction.proofs.estimate.p_global.Tie as tie

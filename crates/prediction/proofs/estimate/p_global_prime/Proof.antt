@@ -6,7 +6,8 @@ use Rattle.prediction.proofs.estimate.p_global_prime.Statement.{stateme
 use Rattle.prediction.proofs.estimate.p_global_prime.Tie as tie
 
 upper-bound-requires : tie.Need-upper-bound-requires
-upper-bound-requires c κs = search needs
+unfolding ofBits
+upper-bound-requires c κs = (c .if1 .taken, c .before .pre .0, c .before .pre .1)
 
 returns : tie.Need-returns
 unfolding primeOf ofBits

@@ -1,8 +1,6 @@
 -- `prediction::estimate::p_local` meets its contract. It is solved only where it can raise the estimate. Assumes nothing.
 use mathlib.Core.Path.{ap, sym, _∙_}
-use Rattle.prediction.specs.Estimate.{pLocal, roundsFor, largest, estimate, estimatedOf, estimateOf}
-use lib.Ieee.{Float}
-use Prim.Native.Nat.{ℕ}
+use Rattle.prediction.specs.Estimate.{pLocal, roundsFor}
 use Rattle.answer.specs.declared.Solved.{Solved}
 use borrow.Author.Needs.{needs}
 use Rattle.prediction.proofs.estimate.p_local.Statement.{statement}

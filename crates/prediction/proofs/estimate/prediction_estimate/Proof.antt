@@ -1,6 +1,6 @@
 -- `prediction::estimate::prediction_estimate` meets its contract. Only impossible counts are refused. Assumes nothing.
 use mathlib.Core.Path.{sym, _∙_}
-use Rattle.prediction.specs.Estimate.{pLocal, roundsFor, largest, estimate, estimatedOf, estimateOf}
+use Rattle.prediction.specs.Estimate.{estimateOf}
 use native.Mathlib.Omega.{arith}
 use Rattle.prediction.proofs.Refusals.{counts-can-be}
 use borrow.Author.Needs.{needs}

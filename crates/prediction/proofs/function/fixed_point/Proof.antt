@@ -1,5 +1,5 @@
 -- `prediction::function::fixed_point` meets its contract. After i updates the 66 - i that may follow lead where the definition leads. Assumes nothing.
-use mathlib.Core.Path.{_≡_, ap, subst, sym, _∙_}
+use mathlib.Core.Path.{_≡_}
 use Prim.Native.Nat.{_-_, _≤_}
 use borrow.Author.Needs.{needs}
 use native.Mathlib.Omega.{arith}

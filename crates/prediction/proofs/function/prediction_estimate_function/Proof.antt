@@ -1,5 +1,5 @@
 -- `prediction::function::prediction_estimate_function` meets its contract. Number 4 comes before 5. Assumes nothing.
-use mathlib.Core.Path.{ap, sym, _∙_}
+use mathlib.Core.Path.{sym, _∙_}
 use Rattle.prediction.specs.Function.{functionOf}
 use Rattle.prediction.proofs.Refusals.{run-can-be}
 use borrow.Author.Needs.{needs}

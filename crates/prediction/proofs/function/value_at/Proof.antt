@@ -1,5 +1,5 @@
 -- `prediction::function::value_at` meets its contract. It is the definition's steps. Assumes nothing.
-use mathlib.Core.Path.{_≡_, ap, _∙_}
+use mathlib.Core.Path.{_∙_}
 use native.Mathlib.Omega.{arith}
 use Rattle.prediction.specs.Function.{valueAt}
 use Rattle.prediction.proofs.Whole.{limit-small}

@@ -1,5 +1,5 @@
 -- `replay::floats::within` meets its contract: the second difference counts only where the first is small enough. Assumes nothing.
-use mathlib.Core.Path.{_≡_, sym, ap}
+use mathlib.Core.Path.{sym, ap}
 use mathlib.Core.Bool.{Bool, _&&_}
 use lib.Ieee.{binary64, le, sub}
 use Rattle.replay.specs.Near.{within}
