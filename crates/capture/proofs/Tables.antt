@@ -12,10 +12,10 @@ use lib.Dec.{eqb}
 use lib.ListN.{List·getD-eq-default, length, getD, set, take, drop, replicate, length-set, length-replicate, getD-replicate}
 use lib.Seq.{getD-set-same, getD-set-other, take-all, take-suc}
 use Rattle.capture.specs.Alphabet.{has, one, distinct, distinctBelow, firstSight, rising, upTo}
-use Rattle.capture.specs.Numbering.{Holds, sightIn, markIn, sumBelow, entered, nextAfter}
+use Rattle.capture.specs.Numbering.{Holds, sightIn, markIn, sumBelow, entered, nextAfter, partly}
 use Rattle.capture.proofs.Membership.{none-in-nil, snoc-same, snoc-other, up-to-seen, up-to-new, up-to-not}
-use Rattle.capture.proofs.Writing.{around}
-use Rattle.capture.proofs.Distinct.{below-le, same-has, distinct-le, distinct-nil, distinct-same, distinct-more, distinct-room}
+use Rattle.capture.proofs.Writing.{around, partly-step}
+use Rattle.capture.proofs.Distinct.{same-has, distinct-le, distinct-nil, distinct-same, distinct-more, distinct-room}
 
 pub holds-same : {f g : ℕ → ℕ} {m : List ℕ} → Holds f m → ((v : ℕ) → g v ≡ f v) → Holds g m
 holds-same h e = record { full = h .full; at = λ v l. h .at v l ∙ sym (e v) }
@@ -230,10 +230,7 @@ summed-step {marks} {m} v {a} l h e =
 pub summed-end : {marks m : List ℕ} (v : ℕ) → 256 ≤ v → Summed marks v m → Holds (sumBelow marks) m
 summed-end v l h = record { full = h .full; at = λ u k. h .past u (omega arith) }
 
--- the number that the table of a rising numbering gives the symbol at place i
-pub rising-at : (s : List ℕ) (i : ℕ) {m : List ℕ} {x : ℕ} → x ≡ getD s i 0 → x < 256 → Holds (rising s) m → getD m x 0 ≡ rising s (getD s i 0)
-rising-at s i e b h = h .at _ b ∙ ap (rising s) e
-
-pub rising-small : (s : List ℕ) (x : ℕ) → x < 256 → rising s x < 256
-unfolding rising
-rising-small s x l = omega (arith, below-le x s)
+-- the symbol at place i goes out as its number in rising order, as the code does it
+pub rising-next : {s : List ℕ} {i x : ℕ} → SymbolAt s i x → {j : ℕ} → j ≡ i + 1 → {m w : List ℕ} (out : List ℕ) → Holds (rising s) m → length s ≤ length out
+    → w ≡ partly (rising s) s i out → set w i (getD m x 0) ≡ partly (rising s) s j out
+rising-next {s} {i} p n out h l e = rw (e, n, h .at _ (p .small), p .here) (partly-step (rising s) s out i (p .inside) l)

@@ -1,10 +1,10 @@
--- What the translators' table of 256 numbers holds on the way. Definitions only.
+-- What the translators' table of 256 numbers and their output hold on the way. Definitions only.
 use mathlib.Core.Path.{_≡_}
 use mathlib.Core.Bool.{cond}
-use mathlib.Core.List.{List}
+use mathlib.Core.List.{List, _++_, map}
 use Prim.Native.Nat.{ℕ, zero, suc, _+_, _<_}
 use lib.Dec.{eqb}
-use lib.ListN.{length, getD, set}
+use lib.ListN.{length, getD, set, take, drop}
 use Rattle.capture.specs.Alphabet.{has, one, firstSight}
 
 -- the table gives each value v what f gives it
@@ -31,3 +31,7 @@ entered numbers x next = cond (eqb (getD numbers x 0) 256) (set numbers x next) 
 
 abbrev pub nextAfter : List ℕ → ℕ → ℕ → ℕ
 nextAfter numbers x next = cond (eqb (getD numbers x 0) 256) (next + 1) next
+
+-- the output when the first i symbols are translated
+abbrev pub partly : (ℕ → ℕ) → List ℕ → ℕ → List ℕ → List ℕ
+partly f s i out = map f (take i s) ++ drop i out

@@ -8,7 +8,7 @@ ghost use mathlib.Core.Path.{_≡_};
 ghost use Prim.Native.Nat.{ℕ, _+_, _<_, _≤_};
 ghost use lib.ListN.{getD, length, replicate, take};
 ghost use Rattle.capture.specs.Alphabet.{alphabetNumber, alphabetOf, dense, distinct, outputOf, rising, sorted, written};
-ghost use Rattle.capture.specs.Numbering.{Holds, entered, markIn, nextAfter, sumBelow};
+ghost use Rattle.capture.specs.Numbering.{Holds, entered, markIn, nextAfter, partly, sumBelow};
 
 // A value that was not seen yet: no number of a value is as large.
 const UNSEEN: u16 = 256;
@@ -128,16 +128,52 @@ pub fn alphabet_size(symbols: &[u8]) -> u64
     number_rising(&mut marks)
 }
 
+// Translates the eight symbols from place i on. All are read before the first is written, so that the reads can overlap.
+fn renumber_eight(symbols: &[u8], i: usize, numbers: &[u8; 256], out: &mut [u8])
+    requires { ⌜ (i + 8 ≤ length (now symbols)) × (length (now symbols) ≤ length (now out)) × Holds (rising (now symbols)) (now numbers) × (now out ≡ partly (rising (now symbols)) (now symbols) i (now out)) ⌝ }
+    ensures { λ _. ⌜ now (out .exit) ≡ partly (rising (now (symbols .entry))) (now (symbols .entry)) (i + 8) (now (out .entry)) ⌝ }
+{
+    let a = numbers[wide(symbols[i])];
+    let b = numbers[wide(symbols[i + 1])];
+    let c = numbers[wide(symbols[i + 2])];
+    let d = numbers[wide(symbols[i + 3])];
+    let e = numbers[wide(symbols[i + 4])];
+    let f = numbers[wide(symbols[i + 5])];
+    let g = numbers[wide(symbols[i + 6])];
+    let h = numbers[wide(symbols[i + 7])];
+    out[i] = a;
+    out[i + 1] = b;
+    out[i + 2] = c;
+    out[i + 3] = d;
+    out[i + 4] = e;
+    out[i + 5] = f;
+    out[i + 6] = g;
+    out[i + 7] = h;
+}
+
+// Translates the symbols from place `start` on.
+fn renumber_rest(symbols: &[u8], start: usize, numbers: &[u8; 256], out: &mut [u8])
+    requires { ⌜ (start ≤ length (now symbols)) × (length (now symbols) ≤ length (now out)) × Holds (rising (now symbols)) (now numbers) × (now out ≡ partly (rising (now symbols)) (now symbols) start (now out)) ⌝ }
+    ensures { λ _. ⌜ now (out .exit) ≡ written (sorted (now (symbols .entry))) (now (out .entry)) ⌝ }
+{
+    let mut i = start;
+    while i < symbols.len() {
+        out[i] = numbers[wide(symbols[i])];
+        i += 1;
+    }
+}
+
 // Translates each symbol by its number.
 fn renumber(symbols: &[u8], numbers: &[u8; 256], out: &mut [u8])
     requires { ⌜ (length (now symbols) ≤ length (now out)) × Holds (rising (now symbols)) (now numbers) ⌝ }
     ensures { λ _. ⌜ now (out .exit) ≡ written (sorted (now (symbols .entry))) (now (out .entry)) ⌝ }
 {
     let mut i: usize = 0;
-    while i < symbols.len() {
-        out[i] = numbers[wide(symbols[i])];
-        i += 1;
+    while 8 <= symbols.len() - i {
+        renumber_eight(symbols, i, numbers, out);
+        i += 8;
     }
+    renumber_rest(symbols, i, numbers, out);
 }
 
 // Numbers the values in rising order and translates. Returns how many there are.

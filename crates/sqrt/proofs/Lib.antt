@@ -1,5 +1,6 @@
 -- The laws of the square root, and those of a double's pattern that it rests on.
 pub mod Roots
+pub mod Excess
 pub mod Powers
 pub mod Shift
 pub mod Patterns

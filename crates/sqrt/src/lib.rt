@@ -1,11 +1,15 @@
 // The square root of a double: "rounded correctly for every double (negative or not a number: not a number;
 // negative zero and infinity: itself). Subnormals are scaled by the position of the leading one of the fraction."
+use crate::nearest::nearest;
 ghost use mathlib.Core.Path.{_≡_};
 ghost use Prim.Native.Nat.{_+_, _-_, _*_, _^_, _≤_, _<_};
 ghost use lib.Ieee.{binary64, size};
 ghost use Rattle.sqrt.specs.Root.{root};
 ghost use Rattle.sqrt.specs.Sqrt.{sqrtOf};
 ghost use Rattle.sqrt.specs.Steps.{Rooted, unitsOf};
+
+pub mod guess;
+pub mod nearest;
 
 // The root of m * 2 ^ 54, of 54 binary digits, one a turn. After i turns q is the root of the digits taken so far,
 // rem what is left of them, and w the digits of m that are still to be taken.
@@ -30,13 +34,13 @@ fn digits(m: u64) -> u64
     q
 }
 
-// The pattern of the root of m * 4 ^ h, rounded, all in units of the smallest double: half of the root's 54 digits,
-// rounded, and the exponent's field. A root that rounds up to 2 ^ 53 carries into the field.
+// The pattern of the root of m * 4 ^ h, rounded, all in units of the smallest double: its 53 digits, and the exponent's
+// field. A root that rounds up to 2 ^ 53 carries into the field.
 fn halved(m: u64, h: u64) -> u64
     requires { ⌜ (2 ^ 52 ≤ m) × (m < 2 ^ 54) × (26 ≤ h) × (h ≤ 2000) ⌝ }
     ensures { λ r. ⌜ Rooted (m * 4 ^ h) r ⌝ }
 {
-    (h - 26) * 0x10_0000_0000_0000 + (digits(m) + 1) / 2
+    (h - 26) * 0x10_0000_0000_0000 + nearest(m)
 }
 
 // The same of q * 2 ^ e: an odd exponent gives one of its twos to q.

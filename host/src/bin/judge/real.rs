@@ -148,14 +148,13 @@ fn ln_ends() -> u64 {
     tally.close()
 }
 
-/// The power by halving, as document 01 says.
-pub fn halved_power(x: f64, n: u64) -> f64 {
-    if n == 0 {
-        return 1.0;
+/// y times the power by halving, as document 01 says.
+fn halved_power(y: f64, x: f64, n: u64) -> f64 {
+    match n {
+        0 => y,
+        _ if n % 2 == 1 => halved_power(y * x, x * x, n / 2),
+        _ => halved_power(y, x * x, n / 2),
     }
-    let half = halved_power(x, n / 2);
-    let square = half * half;
-    if n % 2 == 1 { square * x } else { square }
 }
 
 fn power(clock: Clock, random: &mut Random) -> u64 {
@@ -168,7 +167,7 @@ fn power(clock: Clock, random: &mut Random) -> u64 {
             _ => 1.0 + random.unit() / 1e6,
         };
         let n = random.word() >> random.below(64);
-        let (ours, plain) = (abutfern::power(x, n), halved_power(x, n));
+        let (ours, plain) = (abutfern::power(x, n), halved_power(1.0, x, n));
         let rust = x.powf(n as f64);
         if n < 1 << 28 && rust.is_normal() && plain.is_normal() {
             worst = worst.max((ours / rust - 1.0).abs());

@@ -1,8 +1,9 @@
 -- `capture::translate::number_by_sight` meets its contract. The table holds the numbers of the values seen so far, and the output their translation.
 -- Assumes nothing.
 use Rattle.capture.specs.Alphabet.{firstSight}
+use Rattle.capture.specs.Numbering.{partly}
 use Rattle.capture.proofs.Tables.{Entered, entered-start, entered-next, entered-number, entered-small, entered-all, entered-le}
-use Rattle.capture.proofs.Writing.{partly, partly-step, partly-end, partly-length}
+use Rattle.capture.proofs.Writing.{partly-step, partly-end, partly-length}
 use Prim.Native.Nat.{_≤_, _-_}
 use mathlib.Core.Path.{_≡_, refl, ap, _∙_}
 use borrow.Author.Needs.{needs}

@@ -1,12 +1,12 @@
 -- `capture::translate::number_by_value` meets its contract. The sums of the marks below a value are its number in rising order. Assumes nothing.
-use mathlib.Core.Path.{_∙_}
+use mathlib.Core.Path.{refl, _∙_}
 use borrow.Author.Needs.{needs}
 use Rattle.capture.proofs.Tables.{marks-le, numbers-rising, sum-all}
 use Rattle.capture.proofs.translate.number_by_value.Statement.{statement}
 use Rattle.capture.proofs.translate.number_by_value.Tie as tie
 
 mark-requires : tie.Need-mark-requires
-mark-requires c κs = search needs
+mark-requires c κs = refl
 
 number-rising-requires : tie.Need-number-rising-requires
 number-rising-requires c κs = (c .before .mark .ensures .full, marks-le (c .before .before .before .before .before .args .symbols .now) (c .before .mark .ensures))
