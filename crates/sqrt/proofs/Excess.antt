@@ -35,7 +35,7 @@ over-nearest m q over e s l = between (root n) (sq-lt-back (2 * p + 1) (root n +
     between : (r : ℕ) → 2 * p + 1 < r + 1 → r < 2 * q + 1 → q ≡ (r + 1) / 2
     between r h k = omega arith
 
--- one of the next three numbers is the nearest
+-- the next number is the nearest, or the one after it
 pub over-second : (m q over : ℕ) → Over m q over → 2 * q < over → over ≤ 4 * q + 2 → q + 1 ≡ (root (m * 2 ^ 54) + 1) / 2
 over-second m q over e h k = over-nearest m (q + 1) (over - 2 * q) (over-next m q over e h) (omega arith) (omega arith)
 
@@ -44,12 +44,6 @@ over-third m q over e h k = twice ∙ over-second m (q + 1) (over - 2 * q) (over
   where
     twice : q + 2 ≡ q + 1 + 1
     twice = omega arith
-
-pub over-fourth : (m q over : ℕ) → Over m q over → 6 * q + 6 < over → over ≤ 8 * q + 12 → q + 3 ≡ (root (m * 2 ^ 54) + 1) / 2
-over-fourth m q over e h k = thrice ∙ over-third m (q + 1) (over - 2 * q) (over-next m q over e (omega arith)) (omega arith) (omega arith)
-  where
-    thrice : q + 3 ≡ q + 1 + 2
-    thrice = omega arith
 
 -- ---- q² by the halves of q, a and b
 module _ (q : ℕ) (h : q < 2 ^ 53) where

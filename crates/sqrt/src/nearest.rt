@@ -27,7 +27,7 @@ fn excess(q: u64, m: u64) -> u64
         return 0;
     }
     let low = middle - twice;
-    if 0x8000_0000 <= low {
+    if 0x4000_0000 <= low {
         return 0;
     }
     let all = low * 0x400_0000 + b;
@@ -54,9 +54,6 @@ pub fn nearest(m: u64) -> u64
         }
         if over <= 6 * q + 6 {
             return q + 2;
-        }
-        if over <= 8 * q + 12 {
-            return q + 3;
         }
     }
     (digits(m) + 1) / 2

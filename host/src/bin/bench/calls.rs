@@ -94,49 +94,57 @@ fn closeness(inputs: &[f64]) {
 #[cfg(not(has_reference))]
 fn closeness(_: &[f64]) {}
 
-/// Prints the estimate's longest time beside the Rust's longest, and the worst ratio.
+/// Prints the estimate's time on its slowest input and where it stands worst beside the Rust's.
 fn estimate() {
     if !exported("prediction_estimate") {
         return;
     }
     let times: Vec<Timed> = inputs().into_iter().map(timed).collect();
-    let by = |key: fn(&Timed) -> f64| times.iter().max_by(|a, b| key(a).total_cmp(&key(b)));
-    let ratio = |timed: &Timed| timed.ours / timed.rust.unwrap_or(f64::INFINITY);
-    let rusts = |timed: &Timed| timed.rust.unwrap_or(0.0);
-    let (Some(ours), Some(rust), Some(worst)) = (by(|timed| timed.ours), by(rusts), by(ratio))
-    else {
-        return;
-    };
-    line(
-        "prediction_estimate, each one's slowest",
-        ours.ours,
-        rust.rust,
-    );
-    for (title, timed) in [("our slowest input", ours), ("worst ratio", worst)] {
-        line(
-            &format!("prediction_estimate, {title}"),
-            timed.ours,
-            timed.rust,
-        );
+    let of = |whether: bool, timed: &Timed| if whether { timed.ratio() } else { 0.0 };
+    let rows: [(&str, &dyn Fn(&Timed) -> f64); 5] = [
+        ("our slowest input", &|timed| timed.ours),
+        ("the Rust's slowest input", &|timed| {
+            timed.rust.unwrap_or(0.0)
+        }),
+        ("worst ratio, solved", &|timed| of(timed.solved, timed)),
+        ("worst ratio, k over 1", &|timed| {
+            of(timed.input[3] > 1, timed)
+        }),
+        ("worst ratio", &Timed::ratio),
+    ];
+    for (title, key) in rows {
+        let Some(timed) = times.iter().max_by(|a, b| key(a).total_cmp(&key(b))) else {
+            return;
+        };
+        let title = format!("prediction_estimate, {title}");
+        line(&title, timed.ours, timed.rust);
         println!("    at C, N, run, k = {:?}", timed.input);
     }
 }
 
-/// The seconds of one estimate.
+/// The seconds of one estimate, and whether its p_local was solved.
 struct Timed {
     input: [u64; 4],
+    solved: bool,
     ours: f64,
     rust: Option<f64>,
 }
 
+impl Timed {
+    fn ratio(&self) -> f64 {
+        self.ours / self.rust.unwrap_or(f64::INFINITY)
+    }
+}
+
 fn timed(input: [u64; 4]) -> Timed {
     let [c, n, run, k] = input;
-    let ours = quick(|| {
-        black_box(abutfern::prediction_estimate(c, n, run, k));
-    });
+    let call = || black_box(abutfern::prediction_estimate(c, n, run, k));
     Timed {
         input,
-        ours,
+        solved: call().rounds > 0,
+        ours: quick(|| {
+            call();
+        }),
         rust: rust_estimate(c, n, run, k),
     }
 }

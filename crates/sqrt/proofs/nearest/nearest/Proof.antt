@@ -1,11 +1,11 @@
--- `sqrt::nearest::nearest` meets its contract: the tests on the excess of the guess say which of four numbers is the nearest, and else the root's digits are found one by one.
+-- `sqrt::nearest::nearest` meets its contract: the tests on the excess of the guess say which of three numbers is the nearest, and else the root's digits are found one by one.
 -- Assumes nothing.
 use mathlib.Core.Path.{_≡_}
 use mathlib.Core.Logic.{_⊎_, inl, inr}
 use Prim.Native.Nat.{ℕ, _<_}
 use borrow.Author.Needs.{needs}
 use native.Mathlib.Omega.{arith}
-use Rattle.sqrt.proofs.Excess.{over-nearest, over-second, over-third, over-fourth}
+use Rattle.sqrt.proofs.Excess.{over-nearest, over-second, over-third}
 use Rattle.sqrt.proofs.Rounded.{root-54}
 use Rattle.sqrt.proofs.nearest.nearest.Statement.{statement}
 use Rattle.sqrt.proofs.nearest.nearest.Tie as tie
@@ -60,28 +60,14 @@ returns-3 c =
     let e = c .before .before .before .before .excess in
     over-third (c .before .before .before .before .before .before .args .m) (c .before .before .before .before .before .guess .result) (e .result) (known (e .ensures) (omega arith)) (omega arith) (omega arith)
 
-mul-if5 : tie.Need-mul-if5
-mul-if5 c = search needs
-
-add-if5 : tie.Need-add-if5
-add-if5 c = search needs
-
-add-result-3 : tie.Need-add-result-3
-add-result-3 c = search needs
-
-returns-4 : tie.Need-returns-4
-returns-4 c =
-    let e = c .before .before .before .before .before .excess in
-    over-fourth (c .before .before .before .before .before .before .before .args .m) (c .before .before .before .before .before .before .guess .result) (e .result) (known (e .ensures) (omega arith)) (omega arith) (omega arith)
-
 digits-requires : tie.Need-digits-requires
 digits-requires c κs = search needs
 
-add-result-4 : tie.Need-add-result-4
-add-result-4 c = let a = c .before .before .before .before in omega (arith, c .digits .ensures, root-54 (a .args .m) (a .pre .0) (a .pre .1))
+add-result-3 : tie.Need-add-result-3
+add-result-3 c = let a = c .before .before .before .before in omega (arith, c .digits .ensures, root-54 (a .args .m) (a .pre .0) (a .pre .1))
 
-returns-5 : tie.Need-returns-5
-returns-5 c = search needs
+returns-4 : tie.Need-returns-4
+returns-4 c = search needs
 
 pub nearest-spec : {M : Type 1} → statement M
 nearest-spec =
@@ -99,10 +85,6 @@ nearest-spec =
     add-if4
     add-result-2
     returns-3
-    mul-if5
-    add-if5
-    add-result-3
-    returns-4
     digits-requires
-    add-result-4
-    returns-5)
+    add-result-3
+    returns-4)
