@@ -3,6 +3,7 @@ pub mod Bitstring
 pub mod Clamping
 pub mod Distinct
 pub mod Membership
+pub mod OwnNumbers
 pub mod Reading
 pub mod Tables
 pub mod Translating

@@ -8,7 +8,7 @@ ghost use mathlib.Core.Path.{_≡_};
 ghost use Prim.Native.Nat.{ℕ, _+_, _<_, _≤_};
 ghost use lib.ListN.{getD, length, replicate, take};
 ghost use Rattle.capture.specs.Alphabet.{alphabetNumber, alphabetOf, dense, distinct, outputOf, rising, sorted, written};
-ghost use Rattle.capture.specs.Numbering.{Holds, entered, markIn, nextAfter, partly, sumBelow};
+ghost use Rattle.capture.specs.Numbering.{Holds, entered, markIn, nextAfter, ownNumbers, partly, sumBelow};
 
 // A value that was not seen yet: no number of a value is as large.
 const UNSEEN: u16 = 256;
@@ -176,6 +176,28 @@ fn renumber(symbols: &[u8], numbers: &[u8; 256], out: &mut [u8])
     renumber_rest(symbols, i, numbers, out);
 }
 
+// Whether all `size` values stand below `size`, so that each is its own number. The table says how many do at `size`.
+fn own_numbers(numbers: &[u8; 256], size: u64) -> bool
+    ensures { λ r. ⌜ r ≡ ownNumbers (now (numbers .entry)) size ⌝ }
+{
+    if 255 < size {
+        return true;
+    }
+    numbers[size as usize] == size as u8
+}
+
+// Writes the symbols as they are: with no look-up, many go at a time.
+fn copy(symbols: &[u8], out: &mut [u8])
+    requires { ⌜ length (now symbols) ≤ length (now out) ⌝ }
+    ensures { λ _. ⌜ now (out .exit) ≡ written (now (symbols .entry)) (now (out .entry)) ⌝ }
+{
+    let mut i: usize = 0;
+    while i < symbols.len() {
+        out[i] = symbols[i];
+        i += 1;
+    }
+}
+
 // Numbers the values in rising order and translates. Returns how many there are.
 fn number_by_value(symbols: &[u8], out: &mut [u8]) -> u64
     requires { ⌜ length (now symbols) ≤ length (now out) ⌝ }
@@ -184,7 +206,11 @@ fn number_by_value(symbols: &[u8], out: &mut [u8]) -> u64
     let mut numbers = [0u8; 256];
     mark(symbols, &mut numbers);
     let size = number_rising(&mut numbers);
-    renumber(symbols, &numbers, out);
+    if own_numbers(&numbers, size) {
+        copy(symbols, out);
+    } else {
+        renumber(symbols, &numbers, out);
+    }
     size
 }
 

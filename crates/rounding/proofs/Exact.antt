@@ -6,9 +6,9 @@ use native.Mathlib.Nat.{le-trans, le-of-eq, lt-of-lt-of-le, lt-of-le-of-lt, le-o
 use native.Mathlib.Omega.{arith}
 use mathlib.Core.Bool.{Bool, true, false, _&&_}
 use lib.IntN.{ℤ, pos, negsuc}
-use lib.Dec.{T, leb, ltb, eqb, leb→le, ltb→lt, eqb→eq}
+use lib.Dec.{T, leb, ltb, eqb, leb→le, le→leb, ltb→lt, eqb→eq}
 use lib.Pow.{pow-add, pow-pos, pow-lt}
-use lib.Ieee.{Float, nan, inf, fin, Format, prec, emax, low, up, down, round, mul, fits}
+use lib.Ieee.{Float, nan, inf, fin, Format, binary64, prec, emax, low, up, down, round, mul, fits, inFloat}
 use lib.Ieee.Fits.{two, two-le-pos, and-l, and-r, down-pos}
 use lib.Ieee.Exact.{HasValue, round-exact}
 use lib.Ieee.Positive.{num, den, den-pos, value→cross}
@@ -166,3 +166,8 @@ module _ (f : Format) (x y : Float) (a c t : ℕ) (C : 0 < c) (h : T (fits f x))
       (mul-held f x y a c 1 (2 ^ t) C (pow-pos t) v w
       (subst (λ (z : ℕ). Held f z (c * 2 ^ t)) (sym (mul-one a)) (held-down f a c t C N (held-value f x a c h v)))
       (subst (λ (z : ℕ). z < 2 ^ suc (emax f) * (c * 2 ^ t)) (sym (mul-one a)) O))
+
+-- ---- whole numbers of the format's digits
+pub whole-fits : (n : ℕ) → n ≤ 2 ^ 53 → T (inFloat binary64 (pos n))
+unfolding inFloat
+whole-fits n h = le→leb n (2 ^ 53) h

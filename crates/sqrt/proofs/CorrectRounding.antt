@@ -15,7 +15,7 @@ use Rattle.sqrt.specs.Root.{root}
 use Rattle.sqrt.proofs.Roots.{root-is, sq-suc, sq-dbl, sq-mul, sq-lt, four-pow}
 use Rattle.sqrt.specs.Sqrt.{rounded, sqrtOf}
 use Rattle.sqrt.specs.Steps.{unitsOf}
-use Rattle.sqrt.proofs.Powers.{even-pow, odd-pow, joined, high-side}
+use Rattle.sqrt.proofs.Powers.{one-or-two, split-pow, joined, high-side}
 use Rattle.sqrt.proofs.Shift.{shifted}
 use Rattle.sqrt.proofs.Rounded.{root-54, sig-in, rounded-is, below-top, four-kept}
 use Rattle.sqrt.proofs.Special.{root-of-pattern}
@@ -201,15 +201,11 @@ abbrev Even : ℕ → Type 0
 Even n = (m : ℕ) × (k : ℕ) × (n ≡ m * 4 ^ (26 + k)) × (2 ^ 52 ≤ m) × (m < 2 ^ 54) × (k ≤ 2000)
 
 even-of : (q e : ℕ) → 2 ^ 52 ≤ q → q < 2 ^ 53 → 52 ≤ e → e ≤ 4000 → Even (q * 2 ^ e)
-even-of q e a b c d = go (eqb (e % 2) 0) (eqb→eq (e % 2) 0) (λ t z. subst (λ (x : ℕ). T (not (eqb x 0))) z t)
-  where
-    go : (s : Bool) → (T s → e % 2 ≡ 0) → (T (not s) → e % 2 ≡ 0 → ⊥) → Even (q * 2 ^ e)
-    go true y n =
-        let z : 26 + (e / 2 - 26) ≡ e / 2 = omega arith in
-        (q, e / 2 - 26, sym (even-pow q e (y tt)) ∙ ap (λ (x : ℕ). q * 4 ^ x) (sym z), a, omega arith, omega arith)
-    go false y n =
-        let z : 26 + (e / 2 - 26) ≡ e / 2 = omega arith in
-        (q * 2, e / 2 - 26, sym (odd-pow q e (n tt)) ∙ ap (λ (x : ℕ). q * 2 * 4 ^ x) (sym z), omega arith, omega arith, omega arith)
+even-of q e a b c d =
+    let m = q * (1 + e % 2) in
+    let w = one-or-two q e in
+    let z : 26 + (e / 2 - 26) ≡ e / 2 = omega arith in
+    (m, e / 2 - 26, sym (split-pow q e) ∙ ap (λ (x : ℕ). m * 4 ^ x) (sym z), omega arith, omega arith, omega arith)
 
 even-pattern : (b : ℕ) → 0 < b → b < 0x7ff0_0000_0000_0000 → Even (unitsOf b * 2 ^ 1074)
 even-pattern b P l = go (eqb (b / 2 ^ 52) 0) (eqb→eq (b / 2 ^ 52) 0) (λ t z. subst (λ (x : ℕ). T (not (eqb x 0))) z t)

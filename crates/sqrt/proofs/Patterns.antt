@@ -7,8 +7,8 @@ use native.Mathlib.Omega.{arith}
 use mathlib.Core.Bool.{Bool, true, false, not, cond, true≢false}
 use lib.Dec.{T, leb, eqb, leb→le, eqb→eq, not-T}
 use lib.Pow.{pow-add, pow-pos, pow-lt, shl-lt}
-use lib.Ieee.{Float, nan, inf, fin, Format, binary64, prec, low, down, hid, size, odd, ofFields, ofBits, toBits, isNan, ne}
-use lib.Ieee.Bits.{is-false, cond-no}
+use lib.Ieee.{Float, nan, inf, fin, Format, binary64, prec, low, down, hid, size, odd, ofFields, ofBits, toBits, nanBits, isNan, ne}
+use lib.Ieee.Bits.{is-false, cond-no, nanBits-is}
 use lib.Ieee.Compare.{nan-differs}
 use lib.Ieee.Fits.{down-pos}
 use lib.Ieee.Exact.{HasValue, odd-sign}
@@ -86,6 +86,9 @@ toBits-value f (fin false m e) a h =
 pub value-no-nan : (v : Float) (s : Bool) (a c : ℕ) → HasValue v s a c → T (not (isNan v))
 unfolding isNan
 value-no-nan (fin t m e) s a c h = tt
+
+pub finite-no-nan : (b : ℕ) → b < 0x7ff0_0000_0000_0000 → T (not (nanBits binary64 b))
+finite-no-nan b l = subst (λ (v : Bool). T (not v)) (sym (nanBits-is binary64 b)) (value-no-nan (ofBits binary64 b) false (unitsOf b) (2 ^ 1074) (value-of b l))
 
 -- with z the size, and d of its digits dropped
 bits-at : (q k z d p : ℕ) → size (q * 2 ^ k) ≡ z → z - 53 ≡ d → q * 2 ^ k ≡ p * 2 ^ d → (size (q * 2 ^ k) - 53) * 2 ^ 52 + q * 2 ^ k / 2 ^ (size (q * 2 ^ k) - 53) ≡ d * 2 ^ 52 + p

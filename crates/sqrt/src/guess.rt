@@ -1,47 +1,48 @@
-// A guess at the root of m * 2^52, by Newton's method on `f64`. Nothing is promised of how near it is: the root is
-// found from any guess, in less time from a near one.
-ghost use Prim.Native.Nat.{_^_, _<_};
+// A guess at a root, by arithmetic on `f64`. Nothing is promised of how near it is: the root is found from any guess, in
+// less time from a near one.
+ghost use Prim.Native.Nat.{_^_, _≤_, _<_};
 
-// A first guess at 1 / √z, for a z from 1 to 4: within 1/15,000 of it. The terms stand in pairs, so that none waits for
-// all before it.
-fn first(z: f64) -> f64 {
-    let z2 = z * z;
-    let low = (2.22938437 - 2.54888444 * z) + z2 * (2.16937854 - 1.17967262 * z);
-    let high = (0.405511459 - 0.0852900563 * z) + z2 * (0.0100120864 - 0.000502216111 * z);
-    low + z2 * z2 * high
+const TWO_52: f64 = 4503599627370496.0;
+
+const TWO_104: f64 = 20282409603651670423947251286016.0;
+
+const TWO_105: f64 = 40564819207303340847894502572032.0;
+
+const ROOT_TWO_105: f64 = 6369051672525772.0;
+
+// √t for a t from 1 to 2, within one part in 900,000. The terms stand in pairs, so that none waits for all before it.
+fn series(t: f64) -> f64 {
+    let t2 = t * t;
+    let low = (0.2917142705571648 + 1.0349035363806559 * t)
+        + t2 * (0.20099361225092956 * t - 0.48364710844000243);
+    low + t2 * t2 * (0.005171562497307659 * t - 0.049134795016211545)
 }
 
-// A better guess at 1 / √z than y: its error is about the square of that of y.
-fn better(z: f64, y: f64) -> f64 {
-    y * (1.5 - 0.5 * z * (y * y))
+// A better guess at √z than s. The root is s / √(1 - h), where h is 1 - s^2 / z; here by the terms up to h^2.
+fn better(z: f64, s: f64) -> f64 {
+    let h = (z - s * s) * (1.0 / z);
+    s + s * h * (0.5 + 0.375 * h)
 }
 
-// 2^52 √z: by y, and better by what is left of 2^104 z.
-fn root(z: f64) -> f64 {
-    let y = better(z, first(z));
-    let s = 4503599627370496.0 * z * y;
-    s + (20282409603651670423947251286016.0 * z - s * s) * (1.1102230246251565e-16 * y)
-}
-
-// s - 1 for a whole s from 2^52 up to but not 2^53, which is the last 53 digits of its pattern.
-fn less_one(s: f64) -> u64
-    ensures { λ r. ⌜ r < 2 ^ 53 ⌝ }
+// A whole s from 2^52 up to but not 2^53, by the last 52 digits of its pattern; for any other s some number of that
+// range.
+fn whole(s: f64) -> u64
+    ensures { λ r. ⌜ (2 ^ 52 ≤ r) × (r < 2 ^ 53) ⌝ }
 {
     if s != s {
-        return 0;
+        return 0x10_0000_0000_0000;
     }
-    let whole = f64::to_bits(s) % 0x20_0000_0000_0000;
-    if whole == 0 {
-        return 0;
-    }
-    whole - 1
+    f64::to_bits(s) % 0x10_0000_0000_0000 + 0x10_0000_0000_0000
 }
 
-// A guess at the whole number nearest to √(m * 2^52), rather one too low than one too high.
-pub fn guess(m: u64) -> u64
-    requires { ⌜ m < 2 ^ 54 ⌝ }
-    ensures { λ r. ⌜ r < 2 ^ 53 ⌝ }
+// A guess at the whole number nearest to √(2^52 q), or, where odd is not 0, to √(2^53 q).
+pub fn guess(q: u64, odd: u64) -> u64
+    requires { ⌜ q < 2 ^ 53 ⌝ }
+    ensures { λ r. ⌜ (2 ^ 52 ≤ r) × (r < 2 ^ 53) ⌝ }
 {
-    let z = ((m / 2) as f64) / 2251799813685248.0;
-    less_one(root(z))
+    let t = f64::from_bits(q + 0x3fe0_0000_0000_0000); // q / 2^52
+    if odd == 0 {
+        return whole(better(TWO_104 * t, TWO_52 * series(t)));
+    }
+    whole(better(TWO_105 * t, ROOT_TWO_105 * series(t)))
 }

@@ -1,5 +1,6 @@
 // The square root of a double: "rounded correctly for every double (negative or not a number: not a number;
 // negative zero and infinity: itself). Subnormals are scaled by the position of the leading one of the fraction."
+use crate::guess::guess;
 use crate::nearest::nearest;
 ghost use mathlib.Core.Path.{_≡_};
 ghost use Prim.Native.Nat.{_+_, _-_, _*_, _^_, _≤_, _<_};
@@ -34,25 +35,14 @@ fn digits(m: u64) -> u64
     q
 }
 
-// The pattern of the root of m * 4 ^ h, rounded, all in units of the smallest double: its 53 digits, and the exponent's
-// field. A root that rounds up to 2 ^ 53 carries into the field.
-fn halved(m: u64, h: u64) -> u64
-    requires { ⌜ (2 ^ 52 ≤ m) × (m < 2 ^ 54) × (26 ≤ h) × (h ≤ 2000) ⌝ }
-    ensures { λ r. ⌜ Rooted (m * 4 ^ h) r ⌝ }
-{
-    (h - 26) * 0x10_0000_0000_0000 + nearest(m)
-}
-
-// The same of q * 2 ^ e: an odd exponent gives one of its twos to q.
+// The pattern of the root of q * 2 ^ e, rounded, all in units of the smallest double: its 53 digits, and the exponent's
+// field. An odd exponent gives one of its twos to q. A root that rounds up to 2 ^ 53 carries into the field.
 fn rooted(q: u64, e: u64) -> u64
     requires { ⌜ (2 ^ 52 ≤ q) × (q < 2 ^ 53) × (52 ≤ e) × (e ≤ 4000) ⌝ }
     ensures { λ r. ⌜ Rooted (q * 2 ^ e) r ⌝ }
 {
-    if e % 2 == 0 {
-        halved(q, e / 2)
-    } else {
-        halved(q * 2, e / 2)
-    }
+    let odd = e % 2;
+    (e / 2 - 26) * 0x10_0000_0000_0000 + nearest(q * (1 + odd), guess(q, odd))
 }
 
 // By how many places a subnormal's fraction is shifted left to have the 53 digits of a significand. What has as many

@@ -1,6 +1,5 @@
 // The whole number nearest to a root, from a guess that is checked in whole numbers.
 use crate::digits;
-use crate::guess::guess;
 ghost use mathlib.Core.Path.{_≡_};
 ghost use mathlib.Core.Logic.{_⊎_};
 ghost use Prim.Native.Nat.{_+_, _*_, _/_, _^_, _≤_, _<_};
@@ -38,12 +37,12 @@ fn excess(q: u64, m: u64) -> u64
 }
 
 // The whole number nearest to √(2^52 m), which is half of the root of 2^54 m, rounded. It is the q for which
-// 2^52 m + q - q^2 is from 1 to 2 q; from a q to the next that falls by 2 q.
-pub fn nearest(m: u64) -> u64
-    requires { ⌜ (2 ^ 52 ≤ m) × (m < 2 ^ 54) ⌝ }
+// 2^52 m + q - q^2 is from 1 to 2 q; from a q to the next that falls by 2 q. Here q is the guess less one.
+pub fn nearest(m: u64, guess: u64) -> u64
+    requires { ⌜ (2 ^ 52 ≤ m) × (m < 2 ^ 54) × (0 < guess) × (guess < 2 ^ 53) ⌝ }
     ensures { λ r. ⌜ r ≡ (root (m * 2 ^ 54) + 1) / 2 ⌝ }
 {
-    let q = guess(m);
+    let q = guess - 1;
     let over = excess(q, m);
     if 0 < over {
         if over <= 2 * q {

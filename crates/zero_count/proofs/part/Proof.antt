@@ -1,18 +1,13 @@
 -- `zero_count::part` meets its contract: m is a double, and the quotient by 2 ^ 52 is the fraction. Assumes nothing.
-use Prim.Native.Nat.{ℕ, _^_, _≤_}
 use native.Mathlib.Omega.{arith}
-use lib.Dec.{T, le→leb}
-use lib.IntN.{pos}
-use lib.Ieee.{binary64, inFloat, ofBits}
+use lib.Ieee.{ofBits}
+use Rattle.rounding.proofs.Exact.{whole-fits}
 use Rattle.zero_count.proofs.Fractions.{part-quotient}
 use Rattle.zero_count.proofs.part.Statement.{statement}
 use Rattle.zero_count.proofs.part.Tie as tie
 
 int-to-float-result : tie.Need-int-to-float-result
-int-to-float-result c = held (c .before .args .m) (c .before .pre)
-  where
-    held : (m : ℕ) → m ≤ 2 ^ 52 → T (inFloat binary64 (pos m))
-    held m h = unfold inFloat in le→leb m (2 ^ 53) (omega arith)
+int-to-float-result c = whole-fits _ (omega arith)
 
 returns : tie.Need-returns
 unfolding ofBits

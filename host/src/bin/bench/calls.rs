@@ -9,6 +9,9 @@ use std::hint::black_box;
 
 const CALLS: usize = 4096;
 
+/// C, N, the longest run and k.
+type Counts = [u64; 4];
+
 /// Prints what exists.
 pub fn print() {
     let mut random = Random::new(1);
@@ -52,22 +55,29 @@ fn one(
     rust: impl Fn(f64) -> f64,
 ) {
     if exported(name) || name == "empty" {
-        let title = format!("{name}{label}");
-        line(&title, each(inputs, ours), Some(each(inputs, rust)));
+        line(&format!("{name}{label}"), each(inputs, ours, rust));
     }
 }
 
-/// Seconds of one call, on the average of the inputs.
-fn each(inputs: &[f64], call: impl Fn(f64) -> f64) -> f64 {
-    let all = clock::best(|| {
-        for x in inputs {
-            black_box(call(black_box(*x)));
-        }
-    });
-    all / inputs.len() as f64
+/// Seconds of one call of each, on the average of the inputs.
+fn each(
+    inputs: &[f64],
+    ours: impl Fn(f64) -> f64,
+    rust: impl Fn(f64) -> f64,
+) -> (f64, Option<f64>) {
+    let ours = || over(inputs, &ours);
+    let (ours, rust) = clock::beside(ours, Some(|| over(inputs, &rust)));
+    let one = |all: f64| all / inputs.len() as f64;
+    (one(ours), rust.map(one))
 }
 
-fn line(title: &str, ours: f64, rust: Option<f64>) {
+fn over(inputs: &[f64], call: &impl Fn(f64) -> f64) {
+    for x in inputs {
+        black_box(call(black_box(*x)));
+    }
+}
+
+fn line(title: &str, (ours, rust): (f64, Option<f64>)) {
     print!("{title:<40} {:>9.1} ns", ours * 1e9);
     match rust {
         Some(rust) => println!(" {:>9.1} ns {:>7.3}", rust * 1e9, ours / rust),
@@ -84,11 +94,7 @@ fn closeness(inputs: &[f64]) {
     let yes = |close: bool| f64::from(u8::from(close));
     let ours = |x: f64| yes(abutfern::rel_epsilon_equal(x, 0.75, tiny, epsilon, 4));
     let rust = |x: f64| yes(prediction::rel_epsilon_equal(x, 0.75, tiny, epsilon, 4));
-    line(
-        "rel_epsilon_equal",
-        each(inputs, ours),
-        Some(each(inputs, rust)),
-    );
+    line("rel_epsilon_equal", each(inputs, ours, rust));
 }
 
 #[cfg(not(has_reference))]
@@ -99,7 +105,8 @@ fn estimate() {
     if !exported("prediction_estimate") {
         return;
     }
-    let times: Vec<Timed> = inputs().into_iter().map(timed).collect();
+    let all = inputs().into_iter();
+    let times: Vec<Timed> = all.map(|input| timed(input, 15)).collect();
     let of = |whether: bool, timed: &Timed| if whether { timed.ratio() } else { 0.0 };
     let rows: [(&str, &dyn Fn(&Timed) -> f64); 5] = [
         ("our slowest input", &|timed| timed.ours),
@@ -113,18 +120,27 @@ fn estimate() {
         ("worst ratio", &Timed::ratio),
     ];
     for (title, key) in rows {
-        let Some(timed) = times.iter().max_by(|a, b| key(a).total_cmp(&key(b))) else {
+        let Some(timed) = worst(&times, key) else {
             return;
         };
         let title = format!("prediction_estimate, {title}");
-        line(&title, timed.ours, timed.rust);
+        line(&title, (timed.ours, timed.rust));
         println!("    at C, N, run, k = {:?}", timed.input);
     }
 }
 
+/// The worst by a key: of the hundred that seemed worst, timed once more and longer.
+fn worst(times: &[Timed], key: &dyn Fn(&Timed) -> f64) -> Option<Timed> {
+    let falling = |a: &Timed, b: &Timed| key(b).total_cmp(&key(a));
+    let mut order: Vec<&Timed> = times.iter().collect();
+    order.sort_by(|a, b| falling(a, b));
+    let again = order.iter().take(100).map(|at| timed(at.input, 200));
+    again.min_by(falling)
+}
+
 /// The seconds of one estimate, and whether its p_local was solved.
 struct Timed {
-    input: [u64; 4],
+    input: Counts,
     solved: bool,
     ours: f64,
     rust: Option<f64>,
@@ -136,43 +152,43 @@ impl Timed {
     }
 }
 
-fn timed(input: [u64; 4]) -> Timed {
-    let [c, n, run, k] = input;
-    let call = || black_box(abutfern::prediction_estimate(c, n, run, k));
+/// Seconds of a call in the quickest of some rows of calls, ours and the Rust's by turns.
+fn timed(input: Counts, rows: usize) -> Timed {
+    let call = |[c, n, run, k]: Counts| abutfern::prediction_estimate(c, n, run, k);
+    let (mut ours, mut rust) = (f64::INFINITY, None);
+    for _ in 0..rows {
+        ours = ours.min(row(input, call));
+        rust = rust_estimate(input, rust);
+    }
     Timed {
         input,
-        solved: call().rounds > 0,
-        ours: quick(|| {
-            call();
-        }),
-        rust: rust_estimate(c, n, run, k),
+        solved: call(input).rounds > 0,
+        ours,
+        rust,
     }
 }
 
-/// Seconds of a call in the quickest of some rows of calls.
-fn quick(mut call: impl FnMut()) -> f64 {
+fn row<Answer>(input: Counts, call: impl Fn(Counts) -> Answer) -> f64 {
     const ROW: u32 = 8;
-    let times = (0..15).map(|_| {
-        let start = std::time::Instant::now();
-        (0..ROW).for_each(|_| call());
-        start.elapsed().as_secs_f64() / f64::from(ROW)
-    });
-    times.fold(f64::INFINITY, f64::min)
+    let start = std::time::Instant::now();
+    for _ in 0..ROW {
+        black_box(call(black_box(input)));
+    }
+    start.elapsed().as_secs_f64() / f64::from(ROW)
 }
 
 #[cfg(has_reference)]
-fn rust_estimate(c: u64, n: u64, run: u64, k: u64) -> Option<f64> {
-    Some(quick(|| {
-        black_box(prediction::prediction_estimate(c, n, run, k));
-    }))
+fn rust_estimate(input: Counts, best: Option<f64>) -> Option<f64> {
+    let call = |[c, n, run, k]: Counts| prediction::prediction_estimate(c, n, run, k);
+    Some(best.unwrap_or(f64::INFINITY).min(row(input, call)))
 }
 
 #[cfg(not(has_reference))]
-fn rust_estimate(_: u64, _: u64, _: u64, _: u64) -> Option<f64> {
+fn rust_estimate(_: Counts, _: Option<f64>) -> Option<f64> {
     None
 }
 
-fn inputs() -> Vec<[u64; 4]> {
+fn inputs() -> Vec<Counts> {
     let mut inputs = small();
     inputs.extend(at_limits());
     inputs.extend(spread());
@@ -180,7 +196,7 @@ fn inputs() -> Vec<[u64; 4]> {
 }
 
 /// Every count to N = 40.
-fn small() -> Vec<[u64; 4]> {
+fn small() -> Vec<Counts> {
     let mut inputs = Vec::new();
     for n in 0..=40 {
         for c in 0..=n {
@@ -193,7 +209,7 @@ fn small() -> Vec<[u64; 4]> {
 }
 
 /// The ends of the counts and of the runs at the largest N of the tracks and of the estimate.
-fn at_limits() -> Vec<[u64; 4]> {
+fn at_limits() -> Vec<Counts> {
     let mut inputs = Vec::new();
     for n in [16_777_215, 16_777_216, 134_217_728] {
         for c in [0, 1, n / 2, n - 1, n] {
@@ -206,7 +222,7 @@ fn at_limits() -> Vec<[u64; 4]> {
 }
 
 /// Counts of every size, the runs short, usual and long.
-fn spread() -> Vec<[u64; 4]> {
+fn spread() -> Vec<Counts> {
     let mut inputs = Vec::new();
     for n in [40, 4_033, 100_000, 999_998, 8_000_000, 134_217_728] {
         for part in [0, 1, 16, 64, 128, 192, 240, 255] {

@@ -13,9 +13,10 @@ use track::{Lent, TRACKS, Track};
 const HELP: &str = "\
 bench: the library's time beside the Rust's, both built for release
 
-  bench [--symbols N] [--grow]
+  bench [--symbols N] [--only NAME] [--grow]
 
   --symbols N   symbols in a capture (default 1000000)
+  --only NAME   one function, as multi_mcw_literal, or calls: the functions of numbers
   --grow        the library's time for 10,000 to 16,777,216 symbols instead
 
 The best of several repeats is printed. The output and the work space are lent by the benchmark;
@@ -41,13 +42,13 @@ const CAPTURES: [(&str, Shape, usize, u8); 5] = [
 const LENGTHS: [usize; 4] = [10_000, 100_000, 1_000_000, 16_777_216];
 
 fn main() -> ExitCode {
-    let (mut symbols, mut grow) = (1_000_000, false);
+    let (mut symbols, mut only, mut grow) = (1_000_000, None, false);
     let mut words = std::env::args().skip(1);
     while let Some(word) = words.next() {
-        let mut number = || words.next().and_then(|word| word.parse().ok());
         match word.as_str() {
             "--grow" => grow = true,
-            "--symbols" => match number() {
+            "--only" => only = words.next(),
+            "--symbols" => match words.next().and_then(|word| word.parse().ok()) {
                 Some(number) => symbols = number,
                 None => return help(2),
             },
@@ -55,11 +56,15 @@ fn main() -> ExitCode {
             _ => return help(2),
         }
     }
+    let wanted = |name: &str| only.as_ref().is_none_or(|only| only == name);
+    let tracks: Vec<&Track> = TRACKS.iter().filter(|track| wanted(track.name)).collect();
     if grow {
-        growth();
+        growth(&tracks);
     } else {
-        ratios(symbols);
-        calls::print();
+        ratios(&tracks, symbols);
+        if wanted("calls") {
+            calls::print();
+        }
     }
     ExitCode::SUCCESS
 }
@@ -82,11 +87,11 @@ fn captures(length: usize) -> Vec<Capture> {
 }
 
 /// One line for each track and capture, and the worst ratio of each track.
-fn ratios(length: usize) {
+fn ratios(tracks: &[&Track], length: usize) {
     let captures = captures(length);
     let mut lent = Lent::new(length);
     println!("{length} symbols                              ours         Rust   ratio");
-    for track in TRACKS.iter().filter(|track| exported(track.name)) {
+    for track in tracks.iter().filter(|track| exported(track.name)) {
         let mut worst = 0.0f64;
         for capture in captures.iter().filter(|capture| (track.takes)(capture)) {
             let ratio = line(track, capture, &mut lent);
@@ -99,14 +104,14 @@ fn ratios(length: usize) {
 }
 
 fn line(track: &Track, capture: &Capture, lent: &mut Lent) -> Option<f64> {
-    let ours = clock::best(|| (track.ours)(capture, lent));
+    let (ours, rust) = track.times(capture, lent);
     print!(
         "{:<22} {:<14} {}",
         track.title,
         capture.name,
         milliseconds(ours)
     );
-    let Some(rust) = track.rust(capture) else {
+    let Some(rust) = rust else {
         println!("            -       -");
         return None;
     };
@@ -119,7 +124,7 @@ fn milliseconds(seconds: f64) -> String {
 }
 
 /// Nanoseconds per symbol at each length: a level row is linear growth.
-fn growth() {
+fn growth(tracks: &[&Track]) {
     print!("nanoseconds per symbol                ");
     for length in LENGTHS {
         print!("{length:>12}");
@@ -128,7 +133,7 @@ fn growth() {
     let most = LENGTHS[LENGTHS.len() - 1];
     let captures = captures(most);
     let mut lent = Lent::new(most);
-    for track in TRACKS.iter().filter(|track| exported(track.name)) {
+    for track in tracks.iter().filter(|track| exported(track.name)) {
         for capture in captures.iter().filter(|capture| (track.takes)(capture)) {
             print!("{:<22} {:<15}", track.title, capture.name);
             for length in LENGTHS {

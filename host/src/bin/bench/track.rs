@@ -1,7 +1,6 @@
 //! The translators and the estimators' tracks, ours and the Rust's.
 
 use crate::Capture;
-#[cfg(has_reference)]
 use crate::clock;
 use abutfern::numbers::{COUNTERS, SPACE};
 #[cfg(has_reference)]
@@ -35,15 +34,16 @@ pub struct Track {
 }
 
 impl Track {
-    /// The Rust's best time.
+    /// Our best time, and the Rust's where it is at hand.
     #[cfg(has_reference)]
-    pub fn rust(&self, capture: &Capture) -> Option<f64> {
-        Some(clock::best(|| (self.rust)(capture)))
+    pub fn times(&self, capture: &Capture, lent: &mut Lent) -> (f64, Option<f64>) {
+        let rust = || (self.rust)(capture);
+        clock::beside(|| (self.ours)(capture, lent), Some(rust))
     }
 
     #[cfg(not(has_reference))]
-    pub fn rust(&self, _: &Capture) -> Option<f64> {
-        None
+    pub fn times(&self, capture: &Capture, lent: &mut Lent) -> (f64, Option<f64>) {
+        (clock::best(|| (self.ours)(capture, lent)), None)
     }
 }
 

@@ -2,7 +2,7 @@
 use native.Mathlib.Omega.{arith}
 use lib.Ieee.{ofBits}
 use Rattle.prediction.specs.Estimate.{floorFrom}
-use Rattle.prediction.proofs.Whole.{whole-fits}
+use Rattle.rounding.proofs.Exact.{whole-fits}
 use borrow.Author.Needs.{needs}
 use Rattle.prediction.proofs.estimate.floor_of.Statement.{statement}
 use Rattle.prediction.proofs.estimate.floor_of.Tie as tie

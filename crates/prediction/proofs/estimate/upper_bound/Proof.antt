@@ -4,7 +4,8 @@ use native.Mathlib.Omega.{arith}
 use lib.Ieee.{ofBits, round}
 use Rattle.prediction.specs.Doubles.{z995}
 use Rattle.prediction.specs.Estimate.{upperBound}
-use Rattle.prediction.proofs.Whole.{whole-fits, limit-small}
+use Rattle.rounding.proofs.Exact.{whole-fits}
+use Rattle.prediction.proofs.Whole.{limit-small}
 use borrow.Author.Needs.{needs}
 use Rattle.prediction.proofs.estimate.upper_bound.Statement.{statement}
 use Rattle.prediction.proofs.estimate.upper_bound.Tie as tie

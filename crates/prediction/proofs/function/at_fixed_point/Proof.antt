@@ -1,5 +1,6 @@
-use Rattle.prediction.proofs.Whole.{whole-fits}
+use Rattle.rounding.proofs.Exact.{whole-fits}
 -- `prediction::function::at_fixed_point` meets its contract. It is the definition's operations. Assumes nothing.
+use native.Mathlib.Omega.{arith}
 use lib.Ieee.{ofBits}
 use Rattle.prediction.specs.Function.{atFixedPoint}
 use borrow.Author.Needs.{needs}
@@ -7,10 +8,10 @@ use Rattle.prediction.proofs.function.at_fixed_point.Statement.{stateme
 use Rattle.prediction.proofs.function.at_fixed_point.Tie as tie
 
 int-to-float-rf : tie.Need-int-to-float-rf
-int-to-float-rf c = whole-fits _ (c .before .pre .0)
+int-to-float-rf c = whole-fits _ (omega arith)
 
 int-to-float-nf : tie.Need-int-to-float-nf
-int-to-float-nf c = whole-fits _ (c .before .before .pre .1)
+int-to-float-nf c = whole-fits _ (omega arith)
 
 ln-requires : tie.Need-ln-requires
 ln-requires c κs = search needs

@@ -1,27 +1,51 @@
--- `sqrt::guess::guess` meets its contract: half of m is a double, and the rest asks nothing. Assumes nothing.
+-- `sqrt::guess::guess` meets its contract: the pattern that it makes of q is below that of the infinity, so no NaN's, and the rest asks nothing. Assumes nothing.
 use borrow.Author.Needs.{needs}
-use Prim.Native.Nat.{ℕ, _/_, _^_, _<_}
 use native.Mathlib.Omega.{arith}
-use lib.Dec.{T, le→leb}
-use lib.IntN.{pos}
-use lib.Ieee.{binary64, inFloat}
+use Rattle.sqrt.proofs.Patterns.{finite-no-nan}
 use Rattle.sqrt.proofs.guess.guess.Statement.{statement}
 use Rattle.sqrt.proofs.guess.guess.Tie as tie
 
-int-to-float-z : tie.Need-int-to-float-z
-int-to-float-z c = held (c .before .args .m) (c .before .pre)
-  where
-    held : (m : ℕ) → m < 2 ^ 54 → T (inFloat binary64 (pos (m / 2)))
-    held m h = unfold inFloat in le→leb (m / 2) (2 ^ 53) (omega arith)
+add-t : tie.Need-add-t
+add-t c = search needs
 
-root-requires : tie.Need-root-requires
-root-requires c κs = search needs
+float-from-bits-t : tie.Need-float-from-bits-t
+float-from-bits-t c = finite-no-nan _ (omega arith)
 
-less-one-requires : tie.Need-less-one-requires
-less-one-requires c κs = search needs
+series-requires : tie.Need-series-requires
+series-requires c κs = search needs
+
+better-requires : tie.Need-better-requires
+better-requires c κs = search needs
+
+whole-requires : tie.Need-whole-requires
+whole-requires c κs = search needs
 
 returns : tie.Need-returns
 returns c = search needs
 
+series-requires-2 : tie.Need-series-requires-2
+series-requires-2 c κs = search needs
+
+better-requires-2 : tie.Need-better-requires-2
+better-requires-2 c κs = search needs
+
+whole-requires-2 : tie.Need-whole-requires-2
+whole-requires-2 c κs = search needs
+
+returns-2 : tie.Need-returns-2
+returns-2 c = search needs
+
 pub guess-spec : {M : Type 1} → statement M
-guess-spec = tie.close (tie.spec int-to-float-z root-requires less-one-requires returns)
+guess-spec =
+    tie.close
+    (tie.spec
+    add-t
+    float-from-bits-t
+    series-requires
+    better-requires
+    whole-requires
+    returns
+    series-requires-2
+    better-requires-2
+    whole-requires-2
+    returns-2)

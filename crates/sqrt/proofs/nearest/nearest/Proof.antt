@@ -2,7 +2,7 @@
 -- Assumes nothing.
 use mathlib.Core.Path.{_≡_}
 use mathlib.Core.Logic.{_⊎_, inl, inr}
-use Prim.Native.Nat.{ℕ, _<_}
+use Prim.Native.Nat.{ℕ, _-_, _<_}
 use borrow.Author.Needs.{needs}
 use native.Mathlib.Omega.{arith}
 use Rattle.sqrt.proofs.Excess.{over-nearest, over-second, over-third}
@@ -18,8 +18,8 @@ known (inl e) h = absurd (none e h)
     none e h = omega arith
 known (inr a) h = a
 
-guess-requires : tie.Need-guess-requires
-guess-requires c κs = search needs
+sub-q : tie.Need-sub-q
+sub-q c = search needs
 
 excess-requires : tie.Need-excess-requires
 excess-requires c κs = search needs
@@ -30,7 +30,7 @@ mul-if2 c = search needs
 returns : tie.Need-returns
 returns c =
     let e = c .before .before .excess in
-    over-nearest (c .before .before .before .before .args .m) (c .before .before .before .guess .result) (e .result) (known (e .ensures) (omega arith)) (omega arith) (omega arith)
+    over-nearest (c .before .before .before .args .m) (c .before .before .before .args .guess - 1) (e .result) (known (e .ensures) (omega arith)) (omega arith) (omega arith)
 
 mul-if3 : tie.Need-mul-if3
 mul-if3 c = search needs
@@ -44,7 +44,7 @@ add-result c = search needs
 returns-2 : tie.Need-returns-2
 returns-2 c =
     let e = c .before .before .before .excess in
-    over-second (c .before .before .before .before .before .args .m) (c .before .before .before .before .guess .result) (e .result) (known (e .ensures) (omega arith)) (omega arith) (omega arith)
+    over-second (c .before .before .before .before .args .m) (c .before .before .before .before .args .guess - 1) (e .result) (known (e .ensures) (omega arith)) (omega arith) (omega arith)
 
 mul-if4 : tie.Need-mul-if4
 mul-if4 c = search needs
@@ -58,13 +58,13 @@ add-result-2 c = search needs
 returns-3 : tie.Need-returns-3
 returns-3 c =
     let e = c .before .before .before .before .excess in
-    over-third (c .before .before .before .before .before .before .args .m) (c .before .before .before .before .before .guess .result) (e .result) (known (e .ensures) (omega arith)) (omega arith) (omega arith)
+    over-third (c .before .before .before .before .before .args .m) (c .before .before .before .before .before .args .guess - 1) (e .result) (known (e .ensures) (omega arith)) (omega arith) (omega arith)
 
 digits-requires : tie.Need-digits-requires
 digits-requires c κs = search needs
 
 add-result-3 : tie.Need-add-result-3
-add-result-3 c = let a = c .before .before .before .before in omega (arith, c .digits .ensures, root-54 (a .args .m) (a .pre .0) (a .pre .1))
+add-result-3 c = let a = c .before .before .before in omega (arith, c .digits .ensures, root-54 (a .args .m) (a .pre .0) (a .pre .1))
 
 returns-4 : tie.Need-returns-4
 returns-4 c = search needs
@@ -73,7 +73,7 @@ pub nearest-spec : {M : Type 1} → statement M
 nearest-spec =
     tie.close
     (tie.spec
-    guess-requires
+    sub-q
     excess-requires
     mul-if2
     returns
