@@ -1,3 +1,9 @@
 pub mod BitsAnswers
 pub mod LiteralAnswers
 pub mod Translated
+pub mod Windows
+pub mod Gaps
+pub mod Hearing
+pub mod BitCounts
+pub mod Agreeing
+pub mod TwoValues

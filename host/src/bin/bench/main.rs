@@ -28,6 +28,8 @@ pub struct Capture {
     pub name: &'static str,
     pub symbols: Vec<u8>,
     pub width: u8,
+    /// Whether values are missing below the largest, so that the rising translation renumbers.
+    pub gapped: bool,
 }
 
 /// The captures over which the worst ratio is taken.
@@ -75,15 +77,24 @@ fn help(status: u8) -> ExitCode {
 }
 
 fn captures(length: usize) -> Vec<Capture> {
-    let made = CAPTURES
+    let made = |name, shape, values, width, seed: u32| Capture {
+        name,
+        symbols: capture(shape, values, length, draws(seed * 1_000_003)),
+        width,
+        gapped: false,
+    };
+    let mut captures: Vec<Capture> = CAPTURES
         .iter()
         .zip(1..)
-        .map(|((name, shape, values, width), seed)| Capture {
-            name,
-            symbols: capture(*shape, *values, length, draws(seed * 1_000_003)),
-            width: *width,
-        });
-    made.collect()
+        .map(|((name, shape, values, width), seed)| made(name, *shape, *values, *width, seed))
+        .collect();
+    let mut gapped = made("gapped 8-bit", Shape::Uniform, 128, 8, 6);
+    gapped.gapped = true;
+    for symbol in &mut gapped.symbols {
+        *symbol = 2 * *symbol + 1;
+    }
+    captures.push(gapped);
+    captures
 }
 
 /// One line for each track and capture, and the worst ratio of each track.
@@ -140,7 +151,7 @@ fn growth(tracks: &[&Track]) {
                 let part = Capture {
                     name: capture.name,
                     symbols: capture.symbols[..length].to_vec(),
-                    width: capture.width,
+                    ..*capture
                 };
                 let seconds = clock::best(|| (track.ours)(&part, &mut lent));
                 print!("{:>12.2}", seconds * 1e9 / length as f64);

@@ -51,12 +51,16 @@ fn all(_: &Capture) -> bool {
     true
 }
 
+fn usual(capture: &Capture) -> bool {
+    !capture.gapped
+}
+
 fn binary(capture: &Capture) -> bool {
     capture.width == 1
 }
 
 fn wider(capture: &Capture) -> bool {
-    capture.width > 1
+    capture.width > 1 && !capture.gapped
 }
 
 fn mmc_literal(capture: &Capture, lent: &mut Lent) {
@@ -102,7 +106,7 @@ pub const TRACKS: [Track; 7] = [
     Track {
         name: "multi_mcw",
         title: "MultiMCW bits",
-        takes: all,
+        takes: usual,
         ours: |capture, _| {
             black_box(abutfern::multi_mcw(&capture.symbols, capture.width));
         },
@@ -114,7 +118,7 @@ pub const TRACKS: [Track; 7] = [
     Track {
         name: "multi_mcw_literal",
         title: "MultiMCW literal",
-        takes: all,
+        takes: usual,
         ours: |capture, lent| {
             black_box(abutfern::multi_mcw_literal(&capture.symbols, &mut lent.out));
         },
@@ -126,7 +130,7 @@ pub const TRACKS: [Track; 7] = [
     Track {
         name: "multi_mmc",
         title: "MultiMMC bits",
-        takes: all,
+        takes: usual,
         ours: |capture, lent| {
             let counters = &mut lent.space[..COUNTERS];
             black_box(abutfern::multi_mmc(
