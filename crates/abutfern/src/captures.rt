@@ -1,8 +1,8 @@
 // Captures: the bit reader and the translators.
-use capture::Alphabet;
+use alphabet::Alphabet;
 use capture::BitRead;
 ghost use mathlib.Core.Path.{_≡_};
-ghost use Rattle.capture.specs.Alphabet.{alphabetOf, dense, outputOf, sorted};
+ghost use Rattle.alphabet.specs.Alphabet.{alphabetOf, dense, outputOf, sorted};
 ghost use Rattle.capture.specs.Reader.{bitRead};
 
 // Bit i of a capture.
@@ -18,7 +18,7 @@ pub extern "C" fn abutfern_bit(symbols: &[u8], width: u8, i: u64) -> BitRead
 pub extern "C" fn abutfern_dense_alphabet(symbols: &[u8], out: &mut [u8]) -> Alphabet
     ensures { λ r. ⌜ (r ≡ alphabetOf (now (symbols .entry)) (now (out .entry))) × (now (out .exit) ≡ outputOf dense (now (symbols .entry)) (now (out .entry))) ⌝ }
 {
-    capture::translate::dense_alphabet(symbols, out)
+    alphabet::dense_alphabet(symbols, out)
 }
 
 // A capture's values numbered in rising order.
@@ -26,5 +26,5 @@ pub extern "C" fn abutfern_dense_alphabet(symbols: &[u8], out: &mut [u8]) -> Alp
 pub extern "C" fn abutfern_value_sorted_alphabet(symbols: &[u8], out: &mut [u8]) -> Alphabet
     ensures { λ r. ⌜ (r ≡ alphabetOf (now (symbols .entry)) (now (out .entry))) × (now (out .exit) ≡ outputOf sorted (now (symbols .entry)) (now (out .entry))) ⌝ }
 {
-    capture::translate::value_sorted_alphabet(symbols, out)
+    alphabet::value_sorted_alphabet(symbols, out)
 }

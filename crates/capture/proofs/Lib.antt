@@ -1,12 +1,5 @@
-pub mod Alphabets
 pub mod Bitstring
 pub mod Clamping
-pub mod Distinct
-pub mod Membership
-pub mod OwnNumbers
 pub mod Reading
-pub mod Tables
-pub mod Translating
 pub mod Walking
 pub mod Widest
-pub mod Writing

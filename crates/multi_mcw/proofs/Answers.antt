@@ -7,7 +7,7 @@ use borrow.Author.Tests.{lt-ltb, le-ltb}
 use Rattle.answer.specs.Numbers.{tooLong, tooShort, tooWide, notRun}
 use Rattle.answer.specs.Refused.{refused, refusedAt}
 use Rattle.answer.specs.declared.Answer.{Answer}
-use Rattle.capture.specs.Alphabet.{dense, distinct, written}
+use Rattle.alphabet.specs.Alphabet.{dense, distinct, written}
 use Rattle.capture.specs.Bits.{bitsOf, tooWideAt}
 use Rattle.capture.specs.Limit.{symbolLimit, widthOf}
 use Rattle.capture.proofs.Bitstring.{bits-length}

@@ -9,10 +9,10 @@ use lib.Dec.{eqb, ltb}
 use lib.ListN.{length}
 use borrow.Author.Tests.{ltb-true, ltb-false, le-ltb, ne-eqb}
 use Rattle.answer.specs.Numbers.{done}
-use Rattle.capture.specs.Alphabet.{dense, distinct}
+use Rattle.alphabet.specs.Alphabet.{dense, distinct}
 use Rattle.capture.specs.Bits.{bitsOf}
 use Rattle.capture.specs.Limit.{symbolLimit, widthOf}
-use Rattle.capture.proofs.Alphabets.{Bytes}
+use Rattle.alphabet.proofs.Alphabets.{Bytes}
 use Rattle.capture.proofs.Bitstring.{bits-length}
 use Rattle.capture.proofs.Clamping.{width-most}
 use Rattle.prediction.specs.Counts.{countLimit, impossibleCounts}

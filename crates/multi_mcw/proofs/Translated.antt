@@ -6,12 +6,12 @@ use native.Mathlib.Omega.{arith}
 use lib.ListN.{length, take, drop, length-map}
 use lib.Seq.{take-at}
 use borrow.Author.Tests.{le-ltb}
-use Rattle.capture.specs.Alphabet.{alphabetOf, dense, distinct, firstSight, outputOf, written}
+use Rattle.alphabet.specs.Alphabet.{alphabetOf, dense, distinct, firstSight, outputOf, written}
 use Rattle.capture.specs.Limit.{symbolLimit}
-use Rattle.capture.specs.declared.Alphabet.{Alphabet}
-use Rattle.capture.proofs.Alphabets.{Bytes, dense-below}
+use Rattle.alphabet.specs.declared.Alphabet.{Alphabet}
+use Rattle.alphabet.proofs.Alphabets.{Bytes, dense-below}
 use Rattle.capture.proofs.Clamping.{limit-small}
-use Rattle.capture.proofs.Distinct.{distinct-le}
+use Rattle.alphabet.proofs.Distinct.{distinct-le}
 use Rattle.multi_mcw.specs.Keys.{Samples}
 
 pub dense-length : (s : List ℕ) → length (dense s) ≡ length s

@@ -1,4 +1,5 @@
 // MultiMCW, SP 800-90B 6.3.7: four windows, each of which predicts the commonest of the samples in it (Rust: multi_mcw.rs).
+use alphabet::dense_alphabet;
 use answer::Answer;
 use answer::NOT_RUN;
 use answer::TOO_LONG;
@@ -9,7 +10,6 @@ use answer::refused_at;
 use capture::bits::SYMBOL_LIMIT;
 use capture::bits::too_wide_at;
 use capture::bits::width_of;
-use capture::translate::dense_alphabet;
 use prediction::estimate::prediction_estimate;
 ghost use mathlib.Core.Path.{_≡_};
 ghost use Rattle.multi_mcw.specs.Tracks.{mcwBits, mcwLiteral, mcwLiteralOutput};

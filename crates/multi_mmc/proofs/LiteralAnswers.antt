@@ -8,7 +8,7 @@ use lib.ListN.{length}
 use Rattle.answer.specs.Numbers.{tooLong, tooShort, notRun}
 use Rattle.answer.specs.Refused.{refused}
 use Rattle.answer.specs.declared.Answer.{Answer}
-use Rattle.capture.specs.Alphabet.{distinct, sorted, written}
+use Rattle.alphabet.specs.Alphabet.{distinct, sorted, written}
 use Rattle.capture.specs.Limit.{symbolLimit}
 use Rattle.mmc_bits.specs.Levels.{levels, cap}
 use Rattle.mmc_bits.specs.Space as BitSpace

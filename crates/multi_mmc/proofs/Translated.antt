@@ -6,10 +6,10 @@ use native.Mathlib.Omega.{arith}
 use borrow.Author.Tests.{le-ltb}
 use lib.ListN.{length, take, length-map}
 use lib.Seq.{take-at}
-use Rattle.capture.specs.Alphabet.{alphabetNumber, alphabetOf, distinct, outputOf, rising, sorted, written}
+use Rattle.alphabet.specs.Alphabet.{alphabetNumber, alphabetOf, distinct, outputOf, rising, sorted, written}
 use Rattle.capture.specs.Bits.{Source, bitsOf}
 use Rattle.capture.specs.Limit.{symbolLimit}
-use Rattle.capture.proofs.Alphabets.{Bytes, sorted-below}
+use Rattle.alphabet.proofs.Alphabets.{Bytes, sorted-below}
 use Rattle.capture.proofs.Bitstring.{bits-narrow}
 use Rattle.mmc_bits.specs.Levels.{levels, cap, firstPlace}
 use Rattle.mmc_bits.specs.Mmc as Bits
@@ -17,7 +17,7 @@ use Rattle.mmc_bits.specs.Space as BitSpace
 use Rattle.mmc_store.specs.Mmc as Store
 use Rattle.prediction.specs.Estimate.{estimateOf}
 use Rattle.answer.specs.declared.Answer.{Answer}
-use Rattle.capture.specs.declared.Alphabet.{Alphabet}
+use Rattle.alphabet.specs.declared.Alphabet.{Alphabet}
 use Rattle.race.specs.declared.Tally.{Tally}
 use Rattle.multi_mmc.specs.Tracks.{bitsEstimate, storeEstimate}
 

@@ -9,8 +9,8 @@ use native.Mathlib.Omega.{arith}
 use lib.ListN.{length, List·getD-eq-default}
 use lib.Dec.{leb, ltb}
 use borrow.Author.Tests.{eq-eqb, ne-eqb, ltb-true, ltb-false, leb-true, leb-false}
-use Rattle.capture.specs.Alphabet.{distinct, sorted}
-use Rattle.capture.proofs.Alphabets.{Bytes, sorted-below}
+use Rattle.alphabet.specs.Alphabet.{distinct, sorted}
+use Rattle.alphabet.proofs.Alphabets.{Bytes, sorted-below}
 use Rattle.race.specs.Race.{Guess, silent, says, events, hits, longest}
 use Rattle.mmc_bits.specs.Levels.{levels, cap, firstPlace}
 use Rattle.mmc_bits.specs.Counters.{context, counter}

@@ -7,7 +7,7 @@ use lib.ListN.{length}
 use Rattle.answer.specs.Numbers.{done, tooLong, tooShort, tooWide, notRun}
 use Rattle.answer.specs.Refused.{refused, refusedAt}
 use Rattle.answer.specs.declared.Answer.{Answer}
-use Rattle.capture.specs.Alphabet.{sorted, distinct, written}
+use Rattle.alphabet.specs.Alphabet.{sorted, distinct, written}
 use Rattle.capture.specs.Bits.{bitCount, bitsOf, firstWide, wide}
 use Rattle.capture.specs.Limit.{overLimit, widthOf}
 use Rattle.prediction.specs.Estimate.{estimateOf}

@@ -1,5 +1,7 @@
 // MultiMMC, SP 800-90B 6.3.9: sixteen Markov models with counting, each of which predicts what most often followed its context
 // (Rust: multi_mmc.rs).
+use alphabet::alphabet_size;
+use alphabet::value_sorted_alphabet;
 use answer::Answer;
 use answer::NOT_RUN;
 use answer::TOO_LONG;
@@ -10,15 +12,13 @@ use answer::refused_at;
 use capture::bits::SYMBOL_LIMIT;
 use capture::bits::too_wide_at;
 use capture::bits::width_of;
-use capture::translate::alphabet_size;
-use capture::translate::value_sorted_alphabet;
 use mmc_bits::run::mmc_bits;
 use mmc_store::run::mmc_symbols;
 use prediction::estimate::prediction_estimate;
 ghost use mathlib.Core.Path.{_≡_};
 ghost use Prim.Native.Nat.{_<_, _≤_};
 ghost use lib.ListN.{length};
-ghost use Rattle.capture.specs.Alphabet.{distinct, sorted, written};
+ghost use Rattle.alphabet.specs.Alphabet.{distinct, sorted, written};
 ghost use Rattle.capture.specs.Limit.{symbolLimit};
 ghost use Rattle.mmc_bits.specs.Levels.{cap, levels};
 ghost use Rattle.mmc_bits.specs.Space as BitSpace;

@@ -65,7 +65,7 @@ fn starts(out: &[u8], expected: &[u8]) -> bool {
 
 pub fn dense_alphabet(symbols: &[u8], words: &[u8], expected: &[u8]) -> bool {
     let mut out = captures::room();
-    let r = capture::translate::dense_alphabet(symbols, &mut out);
+    let r = alphabet::dense_alphabet(symbols, &mut out);
     if r.number != DONE {
         return false;
     }
@@ -77,7 +77,7 @@ pub fn dense_alphabet(symbols: &[u8], words: &[u8], expected: &[u8]) -> bool {
 
 pub fn value_sorted_alphabet(symbols: &[u8], words: &[u8], expected: &[u8]) -> bool {
     let mut out = captures::room();
-    let r = capture::translate::value_sorted_alphabet(symbols, &mut out);
+    let r = alphabet::value_sorted_alphabet(symbols, &mut out);
     if r.number != DONE {
         return false;
     }

@@ -8,7 +8,7 @@ use borrow.Author.Tests.{le-ltb}
 use lib.Dec.{leb, ltb}
 use lib.ListN.{length}
 use Rattle.answer.specs.declared.Answer.{Answer}
-use Rattle.capture.specs.Alphabet.{distinct, distinctBelow, has, rising, sorted}
+use Rattle.alphabet.specs.Alphabet.{distinct, distinctBelow, has, rising, sorted}
 use Rattle.capture.specs.Bits.{bitAt, bitsOf, firstWide, table}
 use Rattle.capture.specs.Limit.{symbolLimit, widthOf}
 use Rattle.mmc_bits.specs.Counters as C

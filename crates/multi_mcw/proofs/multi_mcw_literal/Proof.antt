@@ -6,9 +6,9 @@ use native.Mathlib.Omega.{arith}
 use borrow.Author.Needs.{needs}
 use denote.Ref.{now}
 use lib.ListN.{length, take}
-use Rattle.capture.specs.Alphabet.{dense, distinct}
+use Rattle.alphabet.specs.Alphabet.{dense, distinct}
 use Rattle.capture.specs.Limit.{symbolLimit}
-use Rattle.capture.proofs.Alphabets.{Bytes}
+use Rattle.alphabet.proofs.Alphabets.{Bytes}
 use Rattle.multi_mcw.specs.Mcw.{countsOf}
 use Rattle.multi_mcw.proofs.Answers.{literal-too-long, literal-not-run, literal-too-short, literal-done}
 use Rattle.multi_mcw.proofs.Translated.{dense-length, translated-asks, size-is, out-is, part-is}

@@ -172,7 +172,8 @@ fn row<Answer>(input: Counts, call: impl Fn(Counts) -> Answer) -> f64 {
     const ROW: u32 = 8;
     let start = std::time::Instant::now();
     for _ in 0..ROW {
-        black_box(call(black_box(input)));
+        let answer = call(black_box(input));
+        black_box(&answer);
     }
     start.elapsed().as_secs_f64() / f64::from(ROW)
 }

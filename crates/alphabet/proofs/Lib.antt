@@ -1,0 +1,7 @@
+pub mod Alphabets
+pub mod Distinct
+pub mod Membership
+pub mod OwnNumbers
+pub mod Tables
+pub mod Translating
+pub mod Writing
