@@ -1,18 +1,16 @@
 -- A capture whose k values all stand below k is its own translation. At most v values stand below any v, so none below k is missing and none stands above:
 -- exactly v values are smaller than each value v, and v is its own number. Assumes nothing.
 use mathlib.Core.Path.{_≡_, refl, ap, sym, _∙_}
-use mathlib.Core.Bool.{Bool, true, false, _||_}
+use mathlib.Core.Bool.{true}
 use mathlib.Core.List.{List, [], _∷_, map}
 use mathlib.Core.Logic.{⊎-elim}
 use Prim.Native.Nat.{ℕ, zero, suc, _≤_, _<_}
 use native.Mathlib.Decide.{decLe}
 use native.Mathlib.Nat.{eq-or-lt-of-le, le-of-suc-le-suc, lt-of-not-le}
 use native.Mathlib.Omega.{arith}
-use borrow.Author.Tests.{eqb-true, ltb-true, ltb-false}
-use lib.Dec.{eqb, ltb}
 use lib.ListN.{length, getD}
 use Rattle.alphabet.specs.Alphabet.{has, distinct, distinctBelow, rising, sorted}
-use Rattle.alphabet.specs.Numbering.{Holds, markIn, ownNumbers}
+use Rattle.alphabet.specs.Numbering.{Holds, markIn}
 use Rattle.alphabet.proofs.Alphabets.{Bytes, rising-below}
 use Rattle.alphabet.proofs.Distinct.{below-le, distinct-le}
 use Rattle.alphabet.proofs.Membership.{has-at}
@@ -58,11 +56,10 @@ module _ (s : List ℕ) where
   unfolding rising distinct
   all-full l = let e : distinct s ≡ 256 = omega (arith, distinct-le s) in ap (rising s) e
 
-  -- the test on the table of numbers finds such a capture
-  module _ {numbers : List ℕ} (h : Holds (rising s) numbers) where
-    own-full : (a : Bool) → ltb 255 (distinct s) ≡ a → (a || eqb (getD numbers (distinct s) 0) (distinct s)) ≡ true → rising s (distinct s) ≡ distinct s
-    own-full true e t = all-full (omega (arith, ltb-true 255 (distinct s) e))
-    own-full false e t = sym (h .at (distinct s) (omega (arith, ltb-false 255 (distinct s) e))) ∙ eqb-true _ _ t
+  -- what the table of numbers tells of such a capture
+  module _ {numbers : List ℕ} (h : Holds (rising s) numbers) (b : Bytes s) {size : ℕ} (e : size ≡ distinct s) where
+    pub all-sorted : 255 < size → sorted s ≡ s
+    all-sorted l = sorted-same (all-full (omega arith)) b
 
-    pub own-sorted : Bytes s → {size : ℕ} → size ≡ distinct s → ownNumbers numbers size ≡ true → sorted s ≡ s
-    own-sorted b e t = sorted-same (own-full (ltb 255 (distinct s)) refl (rw e at t)) b
+    pub own-sorted : size < 256 → getD numbers size 0 ≡ size → sorted s ≡ s
+    own-sorted l g = sorted-same (let q : rising s size ≡ size = sym (h .at size l) ∙ g in rw e at q) b

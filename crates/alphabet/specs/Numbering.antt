@@ -1,9 +1,9 @@
 -- What the translators' table of 256 numbers and their output hold on the way. Definitions only.
 use mathlib.Core.Path.{_≡_}
-use mathlib.Core.Bool.{Bool, cond, _||_}
+use mathlib.Core.Bool.{cond}
 use mathlib.Core.List.{List, _++_, map}
 use Prim.Native.Nat.{ℕ, zero, suc, _+_, _<_}
-use lib.Dec.{eqb, ltb}
+use lib.Dec.{eqb}
 use lib.ListN.{length, getD, set, take, drop}
 use Rattle.alphabet.specs.Alphabet.{has, one, firstSight}
 
@@ -35,7 +35,3 @@ nextAfter numbers x next = cond (eqb (getD numbers x 0) 256) (next + 1) next
 -- the output when the first i symbols are translated
 abbrev pub partly : (ℕ → ℕ) → List ℕ → ℕ → List ℕ → List ℕ
 partly f s i out = map f (take i s) ++ drop i out
-
--- whether all of `size` values stand below `size`, where the table gives each value how many are smaller
-abbrev pub ownNumbers : List ℕ → ℕ → Bool
-ownNumbers numbers size = ltb 255 size || eqb (getD numbers size 0) size

@@ -4,10 +4,12 @@ use answer::TOO_LONG;
 use answer::TOO_SHORT;
 use capture::bits::SYMBOL_LIMIT;
 ghost use mathlib.Core.Path.{_≡_};
+ghost use mathlib.Core.Bool.{true};
+ghost use mathlib.Core.List.{List};
 ghost use Prim.Native.Nat.{ℕ, _+_, _<_, _≤_};
 ghost use lib.ListN.{getD, length, replicate, take};
 ghost use Rattle.alphabet.specs.Alphabet.{alphabetNumber, alphabetOf, dense, distinct, outputOf, rising, sorted, written};
-ghost use Rattle.alphabet.specs.Numbering.{Holds, entered, markIn, nextAfter, ownNumbers, partly, sumBelow};
+ghost use Rattle.alphabet.specs.Numbering.{Holds, entered, markIn, nextAfter, partly, sumBelow};
 
 // What a translator returns: the number of distinct values.
 #[repr(C)]
@@ -182,9 +184,10 @@ fn renumber(symbols: &[u8], numbers: &[u8; 256], out: &mut [u8])
     renumber_rest(symbols, i, numbers, out);
 }
 
-// Whether all `size` values stand below `size`, so that each is its own number. The table says how many do at `size`.
+// Whether all `size` values stand below `size`, so that each is its own number and a capture is its own translation. The
+// table says how many do at `size`.
 fn own_numbers(numbers: &[u8; 256], size: u64) -> bool
-    ensures { λ r. ⌜ r ≡ ownNumbers (now (numbers .entry)) size ⌝ }
+    ensures { λ r. ⌜ ((s : List ℕ) → ((i : ℕ) → i < length s → getD s i 0 < 256) → Holds (rising s) (now (numbers .entry)) → size ≡ distinct s → r ≡ true → sorted s ≡ s) ⌝ }
 {
     if 255 < size {
         return true;

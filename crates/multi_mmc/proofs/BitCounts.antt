@@ -1,7 +1,7 @@
 -- What the general rules say of bits: a context is present where 0 or 1 was counted after it, and the predicted symbol is 0 only if it was counted
 -- more often, since no other symbol was counted at all.
 -- Assumes nothing.
-use Prim.Native.Nat.{ℕ, zero, suc, _+_, _≤_, _<_}
+use Prim.Native.Nat.{ℕ, suc, _+_, _≤_, _<_}
 use mathlib.Core.Path.{_≡_, refl, sym, ap, _∙_}
 use mathlib.Core.Bool.{cond, and-false}
 use mathlib.Core.List.{List, [], _∷_}
@@ -14,7 +14,7 @@ use Rattle.mmc_bits.specs.Steps.{Bits}
 use Rattle.mmc_bits.proofs.Cases.{tested}
 use Rattle.mmc_store.specs.Counts.{same, present, count, predicted}
 use Rattle.mmc_store.proofs.Largest.{Top, largest-is}
-use Rattle.multi_mmc.proofs.Windows.{key, pair-same}
+use Rattle.multi_mmc.proofs.Windows.{of-two, key, pair-same}
 
 module _ (s : List ℕ) (bits : Bits s) (L : ℕ) where
   -- ---- the place i is counted, with or without the pair of the context of k and the bit x
@@ -30,9 +30,7 @@ module _ (s : List ℕ) (bits : Bits s) (L : ℕ) where
   -- ---- what was counted after the context of k
 
   one-bit : (b : ℕ) → b < 2 → cond (eqb b 0) 1 0 + cond (eqb b 1) 1 0 ≡ 1
-  one-bit zero h = refl
-  one-bit (suc zero) h = refl
-  one-bit (suc (suc b)) h = absurd (omega arith)
+  one-bit = of-two (λ b. cond (eqb b 0) 1 0 + cond (eqb b 1) 1 0 ≡ 1) refl refl
 
   pub present-is : (h : List ℕ) (k : ℕ) → present s L h k ≡ ltb 0 (count s L h k 0 + count s L h k 1)
   unfolding present count
@@ -54,34 +52,22 @@ module _ (s : List ℕ) (bits : Bits s) (L : ℕ) where
     abbrev f : ℕ → ℕ
     f = count s L h k
 
-    zero-top : f 1 < f 0 → Top f 256 0
-    zero-top l = record { below = omega arith; most = most; ties = ties }
-      where
-        most : (y : ℕ) → y < 256 → f y ≤ f 0
-        most zero b = omega arith
-        most (suc zero) b = omega arith
-        most (suc (suc y)) b = omega (arith, count-none h k (suc (suc y)) (omega arith))
-
-        ties : (y : ℕ) → y < 256 → f y ≡ f 0 → y ≤ 0
-        ties zero b e = omega arith
-        ties (suc zero) b e = absurd (omega arith)
-        ties (suc (suc y)) b e = absurd (omega (arith, count-none h k (suc (suc y)) (omega arith)))
-
-    one-top : f 0 ≤ f 1 → 0 < f 1 → Top f 256 1
-    one-top l p = record { below = omega arith; most = most; ties = ties }
-      where
-        most : (y : ℕ) → y < 256 → f y ≤ f 1
-        most zero b = omega arith
-        most (suc zero) b = omega arith
-        most (suc (suc y)) b = omega (arith, count-none h k (suc (suc y)) (omega arith))
-
-        ties : (y : ℕ) → y < 256 → f y ≡ f 1 → y ≤ 1
-        ties zero b e = omega arith
-        ties (suc zero) b e = omega arith
-        ties (suc (suc y)) b e = absurd (omega (arith, count-none h k (suc (suc y)) (omega arith)))
+    -- no other symbol was counted, so the bit that leads the other leads all
+    two-top : (x : ℕ) → x < 2 → 0 < f x → ((y : ℕ) → y < 2 → f y ≤ f x) → ((y : ℕ) → y < 2 → f y ≡ f x → y ≤ x) → Top f 256 x
+    two-top x b p m t = record {
+      below = omega arith;
+      most = λ y l. tested (ltb y 2) (λ u. m y (ltb-true _ _ u)) (λ u. omega (arith, count-none h k y (ltb-false _ _ u)));
+      ties = λ y l e. tested (ltb y 2) (λ u. t y (ltb-true _ _ u) e) (λ u. absurd (omega (arith, count-none h k y (ltb-false _ _ u))));
+    }
 
     pub predicted-is : 0 < f 0 + f 1 → predicted s L h k ≡ cond (ltb (f 1) (f 0)) 0 1
     unfolding predicted
     predicted-is p = tested (ltb (f 1) (f 0))
-        (λ t. rw t (largest-is f 255 0 (zero-top (ltb-true _ _ t))))
-        (λ t. let l : f 0 ≤ f 1 = ltb-false _ _ t in rw t (largest-is f 255 1 (one-top l (omega arith))))
+        (λ t. let l : f 1 < f 0 = ltb-true _ _ t in
+        rw t (largest-is f 255 0 (two-top 0 (omega arith) (omega arith)
+        (of-two (λ y. f y ≤ f 0) (omega arith) (omega arith))
+        (of-two (λ y. f y ≡ f 0 → y ≤ 0) (λ e. omega arith) (λ e. absurd (omega arith))))))
+        (λ t. let l : f 0 ≤ f 1 = ltb-false _ _ t in
+        rw t (largest-is f 255 1 (two-top 1 (omega arith) (omega arith)
+        (of-two (λ y. f y ≤ f 1) (omega arith) (omega arith))
+        (of-two (λ y. f y ≡ f 1 → y ≤ 1) (λ e. omega arith) (λ e. omega arith)))))

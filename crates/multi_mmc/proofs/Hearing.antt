@@ -12,7 +12,7 @@ use Rattle.mmc_bits.specs.Counters.{context, occurs, distinct, counter}
 use Rattle.mmc_bits.specs.Steps.{Bits}
 use Rattle.mmc_bits.proofs.Cases.{tested}
 use Rattle.mmc_store.proofs.Same.{and-left, and-right}
-use Rattle.multi_mmc.proofs.Windows.{key, context-down}
+use Rattle.multi_mmc.proofs.Windows.{of-two, key, context-down}
 use Rattle.multi_mmc.proofs.Gaps.{counter-woken, counter-room, occurs-down, Silent, Since, since-down, silent-since}
 
 module _ (cap : ℕ) (s : List ℕ) where
@@ -48,9 +48,7 @@ module _ (cap : ℕ) (s : List ℕ) where
   heard-same (suc L) a b i e = rw (heard-same L a b i (context-down s L a b e), e)
 
   pub bit-le : (L k i x : ℕ) → x < 2 → counter cap L s (key s L k x) i ≤ both L k i
-  bit-le L k i zero h = omega arith
-  bit-le L k i (suc zero) h = omega arith
-  bit-le L k i (suc (suc x)) h = absurd (omega arith)
+  bit-le L k i = of-two (λ x. counter cap L s (key s L k x) i ≤ both L k i) (omega arith) (omega arith)
 
   module _ (bits : Bits s) where
     pub both-none : (L k i : ℕ) → both L k i ≡ 0 → Silent s bits cap L k i

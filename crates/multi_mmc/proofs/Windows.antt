@@ -17,6 +17,12 @@ use Rattle.mmc_bits.proofs.Cases.{tested}
 use Rattle.mmc_bits.proofs.Room.{context-lt}
 use Rattle.mmc_store.specs.Counts.{same}
 
+-- what holds of 0 and of 1 holds of each bit
+pub of-two : (P : ℕ → Type 0) → P 0 → P 1 → (x : ℕ) → x < 2 → P x
+of-two P a b zero h = a
+of-two P a b (suc zero) h = b
+of-two P a b (suc (suc x)) h = absurd (omega arith)
+
 -- the pair of the context of k and the bit x
 abbrev pub key : List ℕ → ℕ → ℕ → ℕ → ℕ
 key s L k x = context L s k * 2 + x

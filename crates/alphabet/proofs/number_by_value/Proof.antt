@@ -8,7 +8,6 @@ use borrow.Author.Needs.{needs}
 use denote.Ref.{now}
 use Rattle.alphabet.specs.Alphabet.{distinct, sorted, written}
 use Rattle.alphabet.proofs.Alphabets.{Bytes}
-use Rattle.alphabet.proofs.OwnNumbers.{own-sorted}
 use Rattle.alphabet.proofs.Tables.{marks-le, numbers-rising, sum-all}
 use Rattle.alphabet.proofs.number_by_value.Statement.{statement}
 use Rattle.alphabet.proofs.number_by_value.Tie as tie
@@ -28,7 +27,7 @@ same c =
     let m = n .before .before in
     let k = m .before .before .before in
     let s = now (k .before .args .symbols) in
-    own-sorted s (numbers-rising s (m .mark .ensures) (n .number-rising .ensures .1)) (bytes k) (size n) (sym (c .before .own-numbers .ensures) ∙ c .if1 .taken)
+    c .before .own-numbers .ensures s (bytes k) (numbers-rising s (m .mark .ensures) (n .number-rising .ensures .1)) (size n) (c .if1 .taken)
 
 mark-requires : tie.Need-mark-requires
 mark-requires c κs = refl

@@ -1,5 +1,5 @@
+-- `board::smallest_of` meets its contract. It takes the four figures in the definition's order, each against the smallest so far. Assumes nothing.
 use mathlib.Core.Path.{_∙_}
--- `board::smallest_of` meets its contract. Assumes nothing.
 use Rattle.board.specs.Board.{smallest}
 use borrow.Author.Needs.{needs}
 use Rattle.board.proofs.smallest_of.Statement.{statement}

@@ -1,7 +1,7 @@
 -- `sqrt::positive` meets its contract. A subnormal's fraction is shifted to 53 digits and loses as much of its exponent, any other number has its leading one
 -- added to the fraction, and either way it is the same number of smallest doubles. Assumes nothing.
 use mathlib.Core.Path.{sym, ap, _∙_, subst}
-use Prim.Native.Nat.{ℕ, _+_, _-_, _*_, _/_, _%_, _^_}
+use Prim.Native.Nat.{ℕ, _+_, _*_, _/_, _%_, _^_}
 use native.Mathlib.Omega.{arith}
 use borrow.Author.Needs.{needs}
 use Rattle.sqrt.specs.Steps.{Rooted}

@@ -1,7 +1,7 @@
-use Rattle.rounding.proofs.Exact.{whole-fits}
--- `prediction::function::at_fixed_point` meets its contract. It is the definition's operations. Assumes nothing.
+-- `prediction::function::at_fixed_point` meets its contract. It is the definition's operations, and the two counts are doubles. Assumes nothing.
 use native.Mathlib.Omega.{arith}
 use lib.Ieee.{ofBits}
+use Rattle.rounding.proofs.Exact.{whole-fits}
 use Rattle.prediction.specs.Function.{atFixedPoint}
 use borrow.Author.Needs.{needs}
 use Rattle.prediction.proofs.function.at_fixed_point.Statement.{statement}
