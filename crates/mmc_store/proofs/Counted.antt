@@ -1,98 +1,107 @@
--- One pair's count has grown by one: by a new pair, or by a pair that was there.
--- Assumes nothing.
-use Prim.Native.Nat.{ℕ, suc, _+_, _*_, _≤_, _<_}
-use mathlib.Core.Path.{_≡_, refl, sym, ap, subst, _∙_}
-use mathlib.Core.List.{List}
+-- What is kept after a place was counted at one level: that place besides. Assumes nothing.
+use Prim.Native.Nat.{ℕ, zero, suc, _+_, _<_, max}
+use mathlib.Core.Path.{_≡_, refl, sym, ap, subst, fun-ext, _∙_}
+use mathlib.Core.List.{List, _∷_}
 use native.Mathlib.Omega.{arith}
-use native.Mathlib.Decide.{ℕ-discrete}
-use lib.ListN.{set, length-set}
-use lib.Seq.{getD-set-same, getD-set-other}
-use Rattle.mmc_store.specs.Part.{capacity, Tidy, get, headAt, placeAt, linkAt, symbolAt, bestAt, contextsAt, pairHeadAt, keyAt, pairLinkAt, countAt, pairsAt, contextOf, pairOf, keyOf, countIn}
-use Rattle.mmc_store.specs.Step.{newPair}
-use Rattle.mmc_store.proofs.Alike.{SameContexts, SamePairs, same-contexts-of, same-pairs-of, same-tidy, pair-le, pair-key-is}
-use Rattle.mmc_store.proofs.Made.{same-contexts, new-pair-tidy, new-pair-here, new-pair-there, new-pair-symbol, new-pair-best}
+use lib.ListN.{getD}
+use Rattle.table.specs.Table.{Table, number, value, entryOf, valued}
+use Rattle.table.proofs.Laws.{number-kept, found-kept, value-there, valued-table}
+use Rattle.mmc_store.specs.Words.{counts, bests, keyOf, node, words, Keyed, Stores, Kept}
+use Rattle.mmc_store.proofs.Nodes.{node-le, node-next, node-same, node-agree, node-apart}
+use Rattle.mmc_store.proofs.Stored.{keyed-valued, stores-agree, count-stores}
+use Rattle.mmc_store.proofs.Kept.{by-level, kept-table, kept-few}
 
--- the part m′ is m, with the pair of the context c and the symbol x counted once more
-pub record Counted (s : List ℕ) (L : ℕ) (m m′ : List ℕ) (c x : ℕ) : Type 0 where
-  pub tidy : Tidy s L m′
-  pub number : get m′ contextsAt ≡ get m contextsAt
-  pub contexts : (j : ℕ) → contextOf s L m′ j ≡ contextOf s L m j
-  pub here : countIn m′ c x ≡ countIn m c x + 1
-  pub there : (d y : ℕ) → (keyOf c x ≡ keyOf d y → ⊥) → countIn m′ d y ≡ countIn m d y
-  pub symbols : (d : ℕ) → d ≤ capacity → get m′ (symbolAt d) ≡ get m (symbolAt d)
-  pub bests : (d : ℕ) → d ≤ capacity → get m′ (bestAt d) ≡ get m (bestAt d)
+-- place i is counted at level l: c + 1 is the number of its context, p + 1 that of its pair, and n how often that was counted before
+module _ {N : ℕ} {s : List ℕ} {h T : ℕ → List ℕ} (w : Kept N s h T) (bytes : (j : ℕ) → getD s j 0 < 256) (l i : ℕ) (hl : l < N)
+    (c : ℕ) (c-is : node T s l i ≡ suc c) (p : ℕ) (p-is : node T s (suc l) (suc i) ≡ suc p) (n : ℕ) (n-is : n ≡ value (T (suc l)) counts (suc p))
+    (h′ T′ : ℕ → List ℕ)
+    (pair : T′ (suc l) ≡ valued (T (suc l)) counts (suc p) (n + 1))
+    (context : T′ l ≡ valued (T l) bests (suc c) (max (value (T l) bests (suc c)) (keyOf (n + 1) (getD s i 0))))
+    (others : (j : ℕ) → (j ≡ l → ⊥) → (j ≡ suc l → ⊥) → T′ j ≡ T j)
+    (place : h′ l ≡ i ∷ h l) (rest : (j : ℕ) → (j ≡ l → ⊥) → h′ j ≡ h j) where
+  abbrev v : ℕ
+  v = max (value (T l) bests (suc c)) (keyOf (n + 1) (getD s i 0))
 
-module _ (s : List ℕ) (L : ℕ) (m : List ℕ) (t : Tidy s L m) (c x : ℕ) (lo : 1 ≤ c) (hi : c ≤ get m contextsAt) (hx : x < 256) where
-  pub counted-new : get m pairsAt < capacity → pairOf m (keyOf c x) ≡ 0 → Counted s L m (newPair m (keyOf c x)) c x
-  counted-new room z =
-      let l : 256 ≤ keyOf c x = omega arith in
-      let u : keyOf c x < 256 * suc (get m contextsAt) = omega arith in
-      record {
-        tidy = new-pair-tidy s L m t (keyOf c x) l u room;
-        number = same-contexts s L m t (keyOf c x) l u room .number;
-        contexts = same-contexts-of s L m (newPair m (keyOf c x)) t (same-contexts s L m t (keyOf c x) l u room);
-        here = new-pair-here s L m t (keyOf c x) l u room c x refl ∙ sym (ap (λ n. n + 1) (ap (λ p. get m (countAt p)) z ∙ t .none));
-        there = new-pair-there s L m t (keyOf c x) l u room;
-        symbols = new-pair-symbol s L m t (keyOf c x) l u room;
-        bests = new-pair-best s L m t (keyOf c x) l u room;
-      }
+  contexts : Table (T l)
+  contexts = kept-table w l (omega arith)
 
-  module _ (p : ℕ) (q : pairOf m (keyOf c x) ≡ suc p) where
-    abbrev m₃ : List ℕ
-    m₃ = set m (countAt (suc p)) (get m (countAt (suc p)) + 1)
+  pairs : Table (T (suc l))
+  pairs = kept-table w (suc l) hl
 
-    hp : suc p ≤ get m pairsAt
-    hp = subst (λ (k : ℕ). k ≤ get m pairsAt) q (pair-le s L m (keyOf c x))
+  -- ---- each table is as it was, but for one value
+  finds : (j q : ℕ) → entryOf (T′ j) q ≡ entryOf (T j) q
+  finds =
+      by-level (λ j. (q : ℕ) → entryOf (T′ j) q ≡ entryOf (T j) q) l
+      (λ q. ap (λ (m : List ℕ). entryOf m q) context ∙ found-kept contexts bests (suc c) v (omega arith) q)
+      (λ q. ap (λ (m : List ℕ). entryOf m q) pair ∙ found-kept pairs counts (suc p) (n + 1) (omega arith) q)
+      (λ j f g q. ap (λ (m : List ℕ). entryOf m q) (others j f g))
 
-    kept : (a : ℕ) → (a ≡ countAt (suc p) → ⊥) → get m₃ a ≡ get m a
-    kept a h = getD-set-other m (countAt (suc p)) a (get m (countAt (suc p)) + 1) 0 h
+  pub count-node : (d j : ℕ) → node T′ s d j ≡ node T s d j
+  count-node d j = node-agree T s T′ d j (λ a g q. finds (suc a) q)
 
-    counts-up : get m₃ (countAt (suc p)) ≡ get m (countAt (suc p)) + 1
-    counts-up = getD-set-same m (countAt (suc p)) (get m (countAt (suc p)) + 1) 0 (omega (arith, hp, t .fewPairs, t .long))
+  pub count-number : (j : ℕ) → number (T′ j) ≡ number (T j)
+  count-number =
+      by-level (λ j. number (T′ j) ≡ number (T j)) l
+      (ap number context ∙ number-kept contexts bests (suc c) v)
+      (ap number pair ∙ number-kept pairs counts (suc p) (n + 1))
+      (λ j f g. ap number (others j f g))
 
-    alike-contexts : SameContexts m m₃
-    alike-contexts = record {
-      number = kept contextsAt (omega (arith, hp, t .fewPairs));
-      heads = λ j l. kept (headAt j) (omega arith);
-      places = λ e l. kept (placeAt (suc e)) (omega (arith, t .few));
-      links = λ e l. kept (linkAt (suc e)) (omega (arith, t .few));
-    }
+  count-words : (d : ℕ) → words T′ d ≡ words T d
+  unfolding words
+  count-words zero = refl
+  count-words (suc d) = count-number (suc d)
 
-    pub alike-pairs : SamePairs m m₃
-    alike-pairs = record {
-      number = kept pairsAt (omega (arith, hp, t .fewPairs));
-      heads = λ j l. kept (pairHeadAt j) (omega arith);
-      keys = λ e l. kept (keyAt (suc e)) (omega arith);
-      links = λ e l. kept (pairLinkAt (suc e)) (omega arith);
-    }
+  table : (j : ℕ) → Table (T j) → Table (T′ j)
+  table =
+      by-level (λ j. Table (T j) → Table (T′ j)) l
+      (λ t. subst Table (sym context) (valued-table t bests (suc c) v (omega arith) (λ z. omega arith)))
+      (λ t. subst Table (sym pair) (valued-table t counts (suc p) (n + 1) (omega arith) (λ z. omega arith)))
+      (λ j f g t. subst Table (sym (others j f g)) t)
 
-    pairs-at : (k : ℕ) → pairOf m₃ k ≡ pairOf m k
-    pairs-at = same-pairs-of s L m m₃ t alike-pairs
+  keyed : (j a : ℕ) → Keyed a (T j) → Keyed a (T′ j)
+  keyed =
+      by-level (λ j. (a : ℕ) → Keyed a (T j) → Keyed a (T′ j)) l
+      (λ a t. subst (Keyed a) (sym context) (keyed-valued t bests c v (omega arith)))
+      (λ a t. subst (Keyed a) (sym pair) (keyed-valued t counts p (n + 1) (omega arith)))
+      (λ j f g a t. subst (Keyed a) (sym (others j f g)) t)
 
-    -- another pair has another number
-    other : (d y : ℕ) → (keyOf c x ≡ keyOf d y → ⊥) → pairOf m (keyOf d y) ≡ suc p → ⊥
-    other d y f r = f (sym (pair-key-is s L m (keyOf c x) p q) ∙ pair-key-is s L m (keyOf d y) p r)
+  -- ---- level l
+  stored-here : Stores s (suc l) (h′ l) (node T′ s l) (T′ l) (T′ (suc l))
+  stored-here =
+      rw (place, context, pair)
+      (subst (λ (at : ℕ → ℕ). Stores s (suc l) (i ∷ h l) at (valued (T l) bests (suc c) v) (valued (T (suc l)) counts (suc p) (n + 1))) (sym (fun-ext (count-node l)))
+      (count-stores (w .stores l hl) contexts i (node-same T s l i) bytes c c-is (λ j q. node-apart N T s (w .trie) bytes l i j c (omega arith) c-is q)
+      (omega (arith, node-le T s bytes l i, kept-few w l (omega arith))) pairs p n
+      (ap (λ (a : ℕ). entryOf (T (suc l)) (keyOf a (getD s i 0))) (sym c-is) ∙ sym (node-next T s l i) ∙ p-is) n-is))
 
-    count-other : (v : ℕ) → (v ≡ suc p → ⊥) → get m₃ (countAt v) ≡ get m (countAt v)
-    count-other v f = kept (countAt v) (λ e. f (let z : v ≡ suc p = omega arith in z))
+  -- ---- the other levels: what they keep in the same tables stands in the other column
+  best-kept : (d : ℕ) → (d ≡ l → ⊥) → (e : ℕ) → value (T′ d) bests e ≡ value (T d) bests e
+  best-kept =
+      by-level (λ d. (d ≡ l → ⊥) → (e : ℕ) → value (T′ d) bests e ≡ value (T d) bests e) l
+      (λ f. absurd (f refl))
+      (λ f e. ap (λ (m : List ℕ). value m bests e) pair ∙ value-there pairs counts (suc p) (n + 1) bests e (λ z. omega arith))
+      (λ d f g _ e. ap (λ (m : List ℕ). value m bests e) (others d f g))
 
-    some : (v : ℕ) → v < get m pairsAt → 1 ≤ get m₃ (countAt (suc v))
-    some v l = go (ℕ-discrete v p)
-      where
-        go : Dec (v ≡ p) → 1 ≤ get m₃ (countAt (suc v))
-        go (yes e) = subst (λ (v : ℕ). 1 ≤ get m₃ (countAt (suc v))) (sym e) (omega (arith, counts-up))
-        go (no d) = rw (count-other (suc v) (λ e. d (omega arith))) (t .some v l)
+  times-kept : (d : ℕ) → (d ≡ suc l → ⊥) → (e : ℕ) → value (T′ d) counts e ≡ value (T d) counts e
+  times-kept =
+      by-level (λ d. (d ≡ suc l → ⊥) → (e : ℕ) → value (T′ d) counts e ≡ value (T d) counts e) l
+      (λ f e. ap (λ (m : List ℕ). value m counts e) context ∙ value-there contexts bests (suc c) v counts e (λ z. omega arith))
+      (λ f. absurd (f refl))
+      (λ d f g _ e. ap (λ (m : List ℕ). value m counts e) (others d f g))
 
-    pub counted-more : Counted s L m m₃ c x
-    counted-more = record {
-      tidy = same-tidy s L m m₃ t alike-contexts alike-pairs (length-set m (countAt (suc p)) (get m (countAt (suc p)) + 1)) (kept (countAt 0) (omega arith)) some;
-      number = alike-contexts .number;
-      contexts = same-contexts-of s L m m₃ t alike-contexts;
-      here =
-          ap (λ v. get m₃ (countAt v)) (pairs-at (keyOf c x) ∙ q)
-          ∙ counts-up
-          ∙ sym (ap (λ v. get m (countAt v) + 1) q);
-      there = λ d y f. ap (λ v. get m₃ (countAt v)) (pairs-at (keyOf d y)) ∙ count-other (pairOf m (keyOf d y)) (other d y f);
-      symbols = λ d l. kept (symbolAt d) (omega arith);
-      bests = λ d l. kept (bestAt d) (omega arith);
-    }
+  stored-there : (d : ℕ) → (d ≡ l → ⊥) → d < N → Stores s (suc d) (h′ d) (node T′ s d) (T′ d) (T′ (suc d))
+  stored-there d f a =
+      rw (rest d f)
+      (stores-agree (w .stores d a) (node T′ s d) (T′ d) (T′ (suc d))
+      (λ j x. times-kept (suc d) (λ z. f (omega arith)) _
+      ∙ ap (value (T (suc d)) counts) (finds (suc d) _ ∙ ap (λ (e : ℕ). entryOf (T (suc d)) (keyOf e x)) (count-node d j)))
+      (λ j. best-kept d f (node T′ s d j) ∙ ap (value (T d) bests) (count-node d j)))
+
+  pub count-kept : Kept N s h′ T′
+  count-kept = record {
+    root = table 0 (w .root);
+    trie = λ d a. rw (count-words d) (keyed (suc d) (words T d) (w .trie d a));
+    stores = by-level (λ d. d < N → Stores s (suc d) (h′ d) (node T′ s d) (T′ d) (T′ (suc d))) l (λ a. stored-here)
+        (stored-there (suc l) (λ z. omega arith)) (λ d f g. stored-there d f);
+    closed = λ d j a z. count-node (suc d) j ∙ w .closed d j a (sym (count-node d j) ∙ z);
+  }

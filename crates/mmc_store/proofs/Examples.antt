@@ -2,6 +2,7 @@
 use mathlib.Core.Path.{_≡_, refl}
 use mathlib.Core.List.{List, [], _∷_}
 use Prim.Native.Nat.{ℕ}
+use mathlib.Core.Bool.{true}
 use Rattle.race.specs.Race.{scored, standing, event, events, hits, stretch, longest}
 use Rattle.mmc_bits.specs.Levels.{levels, cap}
 use Rattle.mmc_store.specs.Counts.{same, present, count, largest, predicted}
@@ -31,3 +32,32 @@ one-entry = refl
 two-entries : correctOf 2 2 turning ≡ 3
 unfolding turning same present count largest predicted whenFound whenAbsent found level guess scored standing event events hits
 two-entries = refl
+
+-- two entries a level. Before place 4 the levels 1 and 2 are at the cap and have not its context, and level 3, one entry below, counts it: to keep
+-- it there takes a way through the two
+rising : List ℕ
+rising = 0 ∷ 1 ∷ 2 ∷ 3 ∷ 4 ∷ []
+
+shorter-full : (level 2 rising 4 1 .entries ≡ 2) × (level 2 rising 4 2 .entries ≡ 2) × (level 2 rising 4 3 .entries ≡ 1)
+unfolding rising same present count whenFound whenAbsent found level
+shorter-full = (refl, refl, refl)
+
+longer-counts : (level 2 rising 5 1 .entries ≡ 2) × (level 2 rising 5 2 .entries ≡ 2) × (level 2 rising 5 3 .entries ≡ 2)
+unfolding rising same present count whenFound whenAbsent found level
+longer-counts = (refl, refl, refl)
+
+-- at place 3 level 1 has the context 0, but at the cap it does not count the new pair (0, 2); level 2 makes the entry of 2 after 1, 0
+returning : List ℕ
+returning = 0 ∷ 1 ∷ 0 ∷ 2 ∷ []
+
+context-there : found returning (level 2 returning 3) 3 1 ≡ true
+unfolding returning same present count whenFound whenAbsent found level
+context-there = refl
+
+pair-left-out : (level 2 returning 3 1 .entries ≡ 2) × (level 2 returning 4 1 .places ≡ 2 ∷ 1 ∷ [])
+unfolding returning same present count whenFound whenAbsent found level
+pair-left-out = (refl, refl)
+
+longer-has-it : (level 2 returning 3 2 .entries ≡ 1) × (level 2 returning 4 2 .entries ≡ 2)
+unfolding returning same present count whenFound whenAbsent found level
+longer-has-it = (refl, refl)

@@ -1,186 +1,177 @@
--- The tables after a new context and after a new pair.
--- Assumes nothing.
-use Prim.Native.Nat.{ℕ, suc, _+_, _*_, _%_, _≤_, _<_}
-use mathlib.Core.Path.{_≡_, sym, ap, subst, _∙_}
-use mathlib.Core.Logic.{⊎-elim}
-use mathlib.Core.Bool.{cond}
+-- What is kept after a word was made that has no count yet, or that was there already: all that was kept before. Assumes nothing.
+use Prim.Native.Nat.{ℕ, zero, suc, _+_, _-_, _≤_, _<_}
+use mathlib.Core.Path.{_≡_, refl, sym, ap, ap₂, subst, fun-ext, _∙_}
+use mathlib.Core.Bool.{Bool, true, false, cond}
 use mathlib.Core.List.{List}
 use native.Mathlib.Omega.{arith}
-use native.Mathlib.Numerals.{add-one}
-use native.Mathlib.Nat.{eq-or-lt-of-le, le-of-suc-le-suc}
-use lib.ListN.{length}
+use native.Mathlib.Decide.{ℕ-discrete, decLt}
+use lib.ListN.{getD}
 use lib.Dec.{eqb}
-use borrow.Author.Tests.{eq-eqb, ne-eqb}
-use Rattle.mmc_store.specs.Counts.{same}
-use Rattle.mmc_store.specs.Part.{capacity, hashes, last, hashOf, Tidy, get, headAt, placeAt, linkAt, symbolAt, bestAt, contextsAt, pairHeadAt, keyAt, pairLinkAt, countAt, pairsAt, contextOf, pairOf, keyOf, countIn}
-use Rattle.mmc_store.specs.Step.{newContext, newPair}
-use Rattle.mmc_store.proofs.Last.{last-agree}
-use Rattle.mmc_store.proofs.Chain.{chain-more}
-use Rattle.mmc_store.proofs.Walk.{hash-lt}
-use Rattle.mmc_store.proofs.Frame.{context-length, context-kept, context-contexts, context-head, context-best, context-symbol, context-link, context-place, pair-length, pair-kept, pair-pairs, pair-head, pair-count, pair-link, pair-key}
-use Rattle.mmc_store.proofs.Alike.{SameContexts, SamePairs, same-contexts-chained, same-pairs-chained, same-pairs-of, pair-le}
+use Rattle.table.specs.Table.{Table, number, value, entryOf, room, added, grown}
+use Rattle.table.proofs.Laws.{number-more, grown-new, grown-there, grown-not}
+use Rattle.mmc_store.specs.Counts.{same, count}
+use Rattle.mmc_store.specs.Words.{counts, bests, keyOf, node, words, Keyed, Stores, Kept}
+use Rattle.mmc_store.proofs.Same.{and-right, same-refl}
+use Rattle.mmc_store.proofs.Nodes.{node-le, node-next, node-same, node-below, node-here, node-above}
+use Rattle.mmc_store.proofs.Stored.{keyed-more, keyed-added, stores-agree, pair-made, way-stores}
+use Rattle.mmc_store.proofs.Kept.{by-level}
 
--- ---- a new context
-module _ (s : List ℕ) (L : ℕ) (m : List ℕ) (t : Tidy s L m) (i x : ℕ) (lo : L ≤ i) (hi : i ≤ length s) (room : get m contextsAt < capacity) where
+module _ {N : ℕ} {s : List ℕ} {h T : ℕ → List ℕ} (w : Kept N s h T) (bytes : (j : ℕ) → getD s j 0 < 256) (l i : ℕ) (hl : l < N)
+    (parent : 1 ≤ node T s l i) (short : words T l < room) (fits : number (T (suc l)) < room) where
   abbrev k : ℕ
-  k = hashOf s L i
+  k = keyOf (node T s l i) (getD s i 0)
 
-  abbrev n : ℕ
-  n = get m contextsAt
+  -- ---- the word of l + 1 symbols before place i + 1 is made
+  module _ (newer : 1 ≤ node T s l (suc i)) (new : node T s (suc l) (suc i) ≡ 0) (T′ : ℕ → List ℕ)
+      (here : T′ (suc l) ≡ added (T (suc l)) (keyOf (node T s l i) (getD s i 0))) (others : (j : ℕ) → (j ≡ suc l → ⊥) → T′ j ≡ T j) where
+    pub way-here : (j : ℕ) → node T′ s (suc l) j ≡ cond (same s (suc (suc l)) (suc i) j) (suc (number (T (suc l)))) (node T s (suc l) j)
+    way-here = node-here N T s (w .trie) bytes l i hl parent new fits T′ here others
 
-  abbrev m₁ : List ℕ
-  m₁ = newContext m k i x
+    pub way-node : node T′ s (suc l) (suc i) ≡ suc (number (T (suc l)))
+    way-node = way-here (suc i) ∙ rw (same-refl s (suc (suc l)) (suc i))
 
-  hk : k < hashes
-  hk = hash-lt s L i
+    pub way-other : (d j : ℕ) → d ≤ N → (d ≡ suc l → ⊥) → node T′ s d j ≡ node T s d j
+    way-other d j hd f = go (decLt l d)
+      where
+        go : Dec (l < d) → node T′ s d j ≡ node T s d j
+        go (yes g) =
+            let e : suc (suc l) + (d - suc (suc l)) ≡ d = omega arith in
+            rw e at (node-above N T s (w .trie) bytes l i hl parent new fits T′ here others (d - suc (suc l)) j (omega arith))
+        go (no g) = node-below N T s (w .trie) bytes l i hl parent new fits T′ here others d j (omega arith)
 
-  kept : (a : ℕ) →
-      (a ≡ placeAt (n + 1) → ⊥) × (a ≡ linkAt (n + 1) → ⊥) × (a ≡ symbolAt (n + 1) → ⊥) × (a ≡ bestAt (n + 1) → ⊥) × (a ≡ headAt k → ⊥) × (a ≡ contextsAt → ⊥) →
-      get m₁ a ≡ get m a
-  kept a h = context-kept m k i x a h
+    missing : entryOf (T (suc l)) k ≡ 0
+    missing = sym (node-next T s l i) ∙ new
 
-  pub context-number : get m₁ contextsAt ≡ suc n
-  context-number = context-contexts m k i x (t .long) room hk ∙ add-one n
+    words-other : (d : ℕ) → (d ≡ suc l → ⊥) → words T′ d ≡ words T d
+    unfolding words
+    words-other zero f = refl
+    words-other (suc d) f = ap number (others (suc d) f)
 
-  place-new : get m₁ (placeAt (suc n)) ≡ i
-  place-new = rw (add-one n) at (context-place m k i x (t .long) room hk)
+    words-here : words T (suc l) ≤ words T′ (suc l)
+    unfolding words
+    words-here = omega (arith, ap number here, number-more (w .trie l hl .table) k fits)
 
-  place-old : (e : ℕ) → e < n → get m₁ (placeAt (suc e)) ≡ get m (placeAt (suc e))
-  place-old e l = kept (placeAt (suc e)) (omega (arith, hk))
+    keyed : (d : ℕ) → d < N → Keyed (words T′ d) (T′ (suc d))
+    keyed =
+        by-level (λ d. d < N → Keyed (words T′ d) (T′ (suc d))) l
+        (λ a. subst (λ (m : List ℕ). Keyed (words T′ l) m) (sym here) (subst (λ (n : ℕ). Keyed n (added (T (suc l)) k)) (sym (words-other l (λ z. omega arith)))
+        (keyed-added (w .trie l hl) (node T s l i) (getD s i 0) (bytes i) parent (node-le T s bytes l i) short missing fits)))
+        (λ a. keyed-more words-here (subst (λ (m : List ℕ). Keyed (words T (suc l)) m) (sym (others (suc (suc l)) (λ z. omega arith))) (w .trie (suc l) a)))
+        (λ d f g a. rw (words-other d g, others (suc d) (λ z. f (omega arith))) (w .trie d a))
 
-  pub symbol-new : get m₁ (symbolAt (suc n)) ≡ x
-  symbol-new = rw (add-one n) at (context-symbol m k i x (t .long) room hk)
+    -- the best of a word that was there
+    best-kept : (d j : ℕ) → d ≤ N → (d ≡ suc l → ⊥) → value (T′ d) bests (node T′ s d j) ≡ value (T d) bests (node T s d j)
+    best-kept d j a f = ap₂ (λ (m : List ℕ) (e : ℕ). value m bests e) (others d f) (way-other d j a f)
 
-  pub best-new : get m₁ (bestAt (suc n)) ≡ 1
-  best-new = rw (add-one n) at (context-best m k i x (t .long) room hk)
+    -- the counts of level l: the pair that was made has none, as before
+    times-kept :
+        (j x : ℕ) → value (T′ (suc l)) counts (entryOf (T′ (suc l)) (keyOf (node T′ s l j) x)) ≡
+        value (T (suc l)) counts (entryOf (T (suc l)) (keyOf (node T s l j) x))
+    times-kept j x =
+        ap₂ (λ (m : List ℕ) (e : ℕ). value m counts (entryOf m (keyOf e x))) here (way-other l j (omega arith) (λ z. omega arith))
+        ∙ pair-made (w .trie l hl .table) k fits missing (keyOf (node T s l j) x)
 
-  pub symbol-old : (e : ℕ) → e < n → get m₁ (symbolAt (suc e)) ≡ get m (symbolAt (suc e))
-  symbol-old e l = kept (symbolAt (suc e)) (omega (arith, hk))
+    -- level l + 1: the context that was made has no best
+    stored-next : suc l < N → Stores s (suc (suc l)) (h (suc l)) (node T′ s (suc l)) (T′ (suc l)) (T′ (suc (suc l)))
+    unfolding words
+    stored-next a =
+        subst (λ (m : List ℕ). Stores s (suc (suc l)) (h (suc l)) (node T′ s (suc l)) m (T′ (suc (suc l)))) (sym here)
+        (subst (λ (m : List ℕ). Stores s (suc (suc l)) (h (suc l)) (node T′ s (suc l)) (added (T (suc l)) k) m) (sym (others (suc (suc l)) (λ z. omega arith)))
+        (way-stores (w .stores (suc l) a) (w .trie l hl .table) (suc i) (node-same T s (suc l) (suc i)) (w .trie (suc l) a)
+        (node-le T s bytes (suc l)) new k fits (node T′ s (suc l)) way-here))
 
-  pub best-old : (e : ℕ) → e < n → get m₁ (bestAt (suc e)) ≡ get m (bestAt (suc e))
-  best-old e l = kept (bestAt (suc e)) (omega (arith, hk))
+    stored : (d : ℕ) → d < N → Stores s (suc d) (h d) (node T′ s d) (T′ d) (T′ (suc d))
+    stored =
+        by-level (λ d. d < N → Stores s (suc d) (h d) (node T′ s d) (T′ d) (T′ (suc d))) l
+        (λ a. stores-agree (w .stores l hl) (node T′ s l) (T′ l) (T′ (suc l)) times-kept (λ j. best-kept l j (omega arith) (λ z. omega arith)))
+        stored-next
+        (λ d f g a. stores-agree (w .stores d a) (node T′ s d) (T′ d) (T′ (suc d))
+        (λ j x. ap₂ (λ (m : List ℕ) (e : ℕ). value m counts (entryOf m (keyOf e x))) (others (suc d) (λ z. f (omega arith))) (way-other d j (omega arith) g))
+        (λ j. best-kept d j (omega arith) g))
 
-  pub same-pairs : SamePairs m m₁
-  same-pairs = record {
-    number = kept pairsAt (omega (arith, hk));
-    heads = λ j l. kept (pairHeadAt j) (omega (arith, hk));
-    keys = λ p l. kept (keyAt (suc p)) (omega (arith, hk, t .fewPairs));
-    links = λ p l. kept (pairLinkAt (suc p)) (omega (arith, hk, t .fewPairs));
-  }
+    -- the same word has the same newer symbols, which are there
+    closed-here : (j : ℕ) → node T s l j ≡ 0 → node T′ s (suc l) j ≡ 0
+    unfolding same
+    closed-here j z = way-here j ∙ go (same s (suc (suc l)) (suc i) j) refl
+      where
+        go : (b : Bool) → same s (suc (suc l)) (suc i) j ≡ b → cond b (suc (number (T (suc l)))) (node T s (suc l) j) ≡ 0
+        go true q =
+            absurd (omega (arith, node-same T s l (suc i) j (and-right (eqb (getD s (suc i - suc (suc l)) 0) (getD s (j - suc (suc l)) 0)) (same s (suc l) (suc i) j) q)))
+        go false q = w .closed l j hl z
 
-  pub count-old : (p : ℕ) → p ≤ get m pairsAt → get m₁ (countAt p) ≡ get m (countAt p)
-  count-old p l = kept (countAt p) (omega (arith, hk, t .fewPairs))
+    closed-next : (j : ℕ) → node T′ s (suc l) j ≡ 0 → node T s (suc l) j ≡ 0
+    closed-next j z = go (same s (suc (suc l)) (suc i) j) (sym (way-here j) ∙ z)
+      where
+        go : (b : Bool) → cond b (suc (number (T (suc l)))) (node T s (suc l) j) ≡ 0 → node T s (suc l) j ≡ 0
+        go true q = absurd (omega arith)
+        go false q = q
 
-  -- the new context has the number n + 1, and every other its own
-  pub new-context-of : (j : ℕ) → contextOf s L m₁ j ≡ cond (same s L i j) (suc n) (contextOf s L m j)
-  unfolding contextOf last
-  new-context-of j = rw (context-number, place-new) (ap (cond (same s L i j) (suc n)) (last-agree (λ e. same s L (get m₁ (placeAt e)) j) (λ e. same s L (get m (placeAt e)) j) n (λ e l. ap (λ p. same s L p j) (place-old e l))))
+    shut : (d : ℕ) → (j : ℕ) → d < N → node T′ s d j ≡ 0 → node T′ s (suc d) j ≡ 0
+    shut =
+        by-level (λ d. (j : ℕ) → d < N → node T′ s d j ≡ 0 → node T′ s (suc d) j ≡ 0) l
+        (λ j a z. closed-here j (sym (way-other l j (omega arith) (λ r. omega arith)) ∙ z))
+        (λ j a z. way-other (suc (suc l)) j a (λ r. omega arith) ∙ w .closed (suc l) j a (closed-next j z))
+        (λ d f g j a z. way-other (suc d) j a (λ r. f (omega arith)) ∙ w .closed d j a (sym (way-other d j (omega arith) g) ∙ z))
 
-  pub new-context-counts : (c y : ℕ) → countIn m₁ c y ≡ countIn m c y
-  new-context-counts c y = ap (λ p. get m₁ (countAt p)) (same-pairs-of s L m m₁ t same-pairs (keyOf c y)) ∙ count-old (pairOf m (keyOf c y)) (pair-le s L m (keyOf c y))
+    pub way-kept : Kept N s h T′
+    way-kept = record { root = subst Table (sym (others 0 (λ z. omega arith))) (w .root); trie = keyed; stores = stored; closed = shut }
 
-  places-new : (e : ℕ) → e ≡ n → (L ≤ get m₁ (placeAt (suc e))) × (get m₁ (placeAt (suc e)) ≤ length s)
-  places-new e q = subst (λ (e : ℕ). (L ≤ get m₁ (placeAt (suc e))) × (get m₁ (placeAt (suc e)) ≤ length s)) (sym q) (rw place-new (lo, hi))
+  -- ---- it is made if it may be and is not there
+  module _ (may : Bool) (small : may ≡ true → 1 ≤ node T s l (suc i)) (T′ : ℕ → List ℕ)
+      (here : T′ (suc l) ≡ grown (T (suc l)) (keyOf (node T s l i) (getD s i 0)) may) (others : (j : ℕ) → (j ≡ suc l → ⊥) → T′ j ≡ T j) where
+    pub grow-same : (node T s (suc l) (suc i) ≡ 0 → may ≡ false) → T′ (suc l) ≡ T (suc l)
+    grow-same f = here ∙ go (ℕ-discrete (entryOf (T (suc l)) k) 0)
+      where
+        go : Dec (entryOf (T (suc l)) k ≡ 0) → grown (T (suc l)) k may ≡ T (suc l)
+        go (yes z) = grown-not (T (suc l)) k may (f (node-next T s l i ∙ z))
+        go (no g) = grown-there (T (suc l)) k may g
 
-  places-old : (e : ℕ) → e < n → (L ≤ get m₁ (placeAt (suc e))) × (get m₁ (placeAt (suc e)) ≤ length s)
-  places-old e l = rw (place-old e l) (t .places e l)
+    all-same : (node T s (suc l) (suc i) ≡ 0 → may ≡ false) → T′ ≡ T
+    all-same f = fun-ext (λ j. go j (ℕ-discrete j (suc l)))
+      where
+        go : (j : ℕ) → Dec (j ≡ suc l) → T′ j ≡ T j
+        go j (yes e) = subst (λ (j : ℕ). T′ j ≡ T j) (sym e) (grow-same f)
+        go j (no g) = others j g
 
-  pub new-context-tidy : Tidy s L m₁
-  new-context-tidy = record {
-    long = context-length m k i x ∙ t .long;
-    few = omega (arith, context-number);
-    fewPairs = omega (arith, same-pairs .number, t .fewPairs);
-    contexts = chain-more (t .contexts) (get m₁ contextsAt) (λ k. get m₁ (headAt k)) (λ e. get m₁ (linkAt e)) (λ e. hashOf s L (get m₁ (placeAt e)))
-        k hk context-number (ap (hashOf s L) place-new) (context-head m k i x (t .long) room hk ∙ add-one n) (rw (add-one n) at (context-link m k i x (t .long) room hk))
-        (λ j l f. kept (headAt j) (omega (arith, hk)))
-        (λ e l. kept (linkAt (suc e)) (omega (arith, hk)))
-        (λ e l. ap (hashOf s L) (place-old e l));
-    pairs = same-pairs-chained s L m m₁ t same-pairs;
-    places = λ e l. ⊎-elim (places-new e) (places-old e) (eq-or-lt-of-le (le-of-suc-le-suc (rw context-number at l)));
-    keys = λ p l. (let h : p < get m pairsAt = omega (arith, same-pairs .number) in rw (same-pairs .keys p h, context-number) (omega (arith, t .keys p h)));
-    none = count-old 0 (omega arith) ∙ t .none;
-    some = λ p l. (let h : p < get m pairsAt = omega (arith, same-pairs .number) in rw (count-old (suc p) h) (t .some p h));
-  }
+    grow-cases :
+        {P : Type 0} → (may ≡ true → node T s (suc l) (suc i) ≡ 0 → T′ (suc l) ≡ added (T (suc l)) k → P) →
+        ((node T s (suc l) (suc i) ≡ 0 → may ≡ false) → P) → P
+    grow-cases {P} made stays = go may refl (ℕ-discrete (node T s (suc l) (suc i)) 0)
+      where
+        go : (b : Bool) → may ≡ b → Dec (node T s (suc l) (suc i) ≡ 0) → P
+        go true b (yes z) = made b z (here ∙ grown-new (T (suc l)) k may b (sym (node-next T s l i) ∙ z))
+        go true b (no f) = stays (λ z. absurd (f z))
+        go false b d = stays (λ z. b)
 
--- ---- a new pair
-module _ (s : List ℕ) (L : ℕ) (m : List ℕ) (t : Tidy s L m) (key : ℕ) (lo : 256 ≤ key) (hi : key < 256 * suc (get m contextsAt)) (room : get m pairsAt < capacity) where
-  abbrev n₂ : ℕ
-  n₂ = get m pairsAt
+    pub grow-kept : Kept N s h T′
+    grow-kept = grow-cases (λ b z e. way-kept (small b) z T′ e others) (λ f. subst (Kept N s h) (sym (all-same f)) w)
 
-  abbrev m₂ : List ℕ
-  m₂ = newPair m key
+    pub grow-other : (d j : ℕ) → d ≤ N → (d ≡ suc l → ⊥) → node T′ s d j ≡ node T s d j
+    grow-other d j a g = grow-cases (λ b z e. way-other (small b) z T′ e others d j a g) (λ f. ap (λ (T : ℕ → List ℕ). node T s d j) (all-same f))
 
-  pkept : (a : ℕ) →
-      (a ≡ keyAt (n₂ + 1) → ⊥) × (a ≡ pairLinkAt (n₂ + 1) → ⊥) × (a ≡ countAt (n₂ + 1) → ⊥) × (a ≡ pairHeadAt (key % hashes) → ⊥) × (a ≡ pairsAt → ⊥) →
-      get m₂ a ≡ get m a
-  pkept a h = pair-kept m key a h
+    -- a word that was there keeps its number
+    pub grow-waits : (j : ℕ) → (node T s (suc l) j ≡ 0 → ⊥) → node T′ s (suc l) j ≡ node T s (suc l) j
+    grow-waits j g =
+        grow-cases (λ b z e. way-here (small b) z T′ e others j ∙ go z (same s (suc (suc l)) (suc i) j) refl)
+        (λ f. ap (λ (T : ℕ → List ℕ). node T s (suc l) j) (all-same f))
+      where
+        go : node T s (suc l) (suc i) ≡ 0 → (b : Bool) → same s (suc (suc l)) (suc i) j ≡ b →
+            cond b (suc (number (T (suc l)))) (node T s (suc l) j) ≡ node T s (suc l) j
+        go z true q = absurd (g (sym (node-same T s (suc l) (suc i) j q) ∙ z))
+        go z false q = refl
 
-  pub pair-number : get m₂ pairsAt ≡ suc n₂
-  pair-number = pair-pairs m key (t .long) room ∙ add-one n₂
+    pub grow-some : may ≡ true → 1 ≤ node T′ s (suc l) (suc i)
+    grow-some b = grow-cases (λ b z e. omega (arith, way-node (small b) z T′ e others)) (λ f. go f (ℕ-discrete (node T s (suc l) (suc i)) 0))
+      where
+        go : (node T s (suc l) (suc i) ≡ 0 → may ≡ false) → Dec (node T s (suc l) (suc i) ≡ 0) → 1 ≤ node T′ s (suc l) (suc i)
+        go f (yes z) = absurd (let n = f z in let y : _≡_ {A = ℕ} 0 1 = cc in omega arith)
+        go f (no g) = omega (arith, grow-waits (suc i) g)
 
-  key-new : get m₂ (keyAt (suc n₂)) ≡ key
-  key-new = rw (add-one n₂) at (pair-key m key (t .long) room)
+    pub grow-number : number (T′ (suc l)) ≤ suc (number (T (suc l)))
+    grow-number = grow-cases (λ b z e. omega (arith, ap number e, number-more (w .trie l hl .table) k fits)) (λ f. omega (arith, ap number (grow-same f)))
 
-  key-old : (p : ℕ) → p < n₂ → get m₂ (keyAt (suc p)) ≡ get m (keyAt (suc p))
-  key-old p l = pkept (keyAt (suc p)) (omega arith)
-
-  count-new : get m₂ (countAt (suc n₂)) ≡ 1
-  count-new = rw (add-one n₂) at (pair-count m key (t .long) room)
-
-  count-kept : (p : ℕ) → p ≤ n₂ → get m₂ (countAt p) ≡ get m (countAt p)
-  count-kept p l = pkept (countAt p) (omega arith)
-
-  pub new-pair-symbol : (d : ℕ) → d ≤ capacity → get m₂ (symbolAt d) ≡ get m (symbolAt d)
-  new-pair-symbol d l = pkept (symbolAt d) (omega arith)
-
-  pub new-pair-best : (d : ℕ) → d ≤ capacity → get m₂ (bestAt d) ≡ get m (bestAt d)
-  new-pair-best d l = pkept (bestAt d) (omega arith)
-
-  pub same-contexts : SameContexts m m₂
-  same-contexts = record {
-    number = pkept contextsAt (omega arith);
-    heads = λ j l. pkept (headAt j) (omega arith);
-    places = λ e l. pkept (placeAt (suc e)) (omega (arith, t .few));
-    links = λ e l. pkept (linkAt (suc e)) (omega (arith, t .few));
-  }
-
-  -- the new pair has the number n₂ + 1, and every other its own
-  new-pair-of : (k : ℕ) → pairOf m₂ k ≡ cond (eqb key k) (suc n₂) (pairOf m k)
-  unfolding pairOf last
-  new-pair-of k = rw (pair-number, key-new) (ap (cond (eqb key k) (suc n₂)) (last-agree (λ p. eqb (get m₂ (keyAt p)) k) (λ p. eqb (get m (keyAt p)) k) n₂ (λ p l. ap (λ y. eqb y k) (key-old p l))))
-
-  pub new-pair-here : (c y : ℕ) → key ≡ keyOf c y → countIn m₂ c y ≡ 1
-  new-pair-here c y e = ap (λ p. get m₂ (countAt p)) (new-pair-of (keyOf c y) ∙ rw (eq-eqb key (keyOf c y) e)) ∙ count-new
-
-  pub new-pair-there : (c y : ℕ) → (key ≡ keyOf c y → ⊥) → countIn m₂ c y ≡ countIn m c y
-  new-pair-there c y f = ap (λ p. get m₂ (countAt p)) (new-pair-of (keyOf c y) ∙ rw (ne-eqb key (keyOf c y) f)) ∙ count-kept (pairOf m (keyOf c y)) (pair-le s L m (keyOf c y))
-
-  keys-new : (p : ℕ) → p ≡ n₂ → (256 ≤ get m₂ (keyAt (suc p))) × (get m₂ (keyAt (suc p)) < 256 * suc (get m₂ contextsAt))
-  keys-new p q =
-      subst (λ (p : ℕ). (256 ≤ get m₂ (keyAt (suc p))) × (get m₂ (keyAt (suc p)) < 256 * suc (get m₂ contextsAt))) (sym q) (rw (key-new, same-contexts .number) (lo, hi))
-
-  keys-old : (p : ℕ) → p < n₂ → (256 ≤ get m₂ (keyAt (suc p))) × (get m₂ (keyAt (suc p)) < 256 * suc (get m₂ contextsAt))
-  keys-old p l = rw (key-old p l, same-contexts .number) (t .keys p l)
-
-  some-new : (p : ℕ) → p ≡ n₂ → 1 ≤ get m₂ (countAt (suc p))
-  some-new p q = subst (λ (p : ℕ). 1 ≤ get m₂ (countAt (suc p))) (sym q) (omega (arith, count-new))
-
-  some-old : (p : ℕ) → p < n₂ → 1 ≤ get m₂ (countAt (suc p))
-  some-old p l = rw (count-kept (suc p) l) (t .some p l)
-
-  pub new-pair-tidy : Tidy s L m₂
-  new-pair-tidy = record {
-    long = pair-length m key ∙ t .long;
-    few = omega (arith, same-contexts .number, t .few);
-    fewPairs = omega (arith, pair-number);
-    contexts = same-contexts-chained s L m m₂ t same-contexts;
-    pairs = chain-more (t .pairs) (get m₂ pairsAt) (λ k. get m₂ (pairHeadAt k)) (λ p. get m₂ (pairLinkAt p)) (λ p. get m₂ (keyAt p) % hashes)
-        (key % hashes) (omega arith) pair-number (ap (λ k. k % hashes) key-new) (pair-head m key (t .long) room ∙ add-one n₂) (rw (add-one n₂) at (pair-link m key (t .long) room))
-        (λ j l f. pkept (pairHeadAt j) (omega arith))
-        (λ p l. pkept (pairLinkAt (suc p)) (omega arith))
-        (λ p l. ap (λ k. k % hashes) (key-old p l));
-    places = λ e l. (let h : e < get m contextsAt = omega (arith, same-contexts .number) in rw (same-contexts .places e h) (t .places e h));
-    keys = λ p l. ⊎-elim (keys-new p) (keys-old p) (eq-or-lt-of-le (le-of-suc-le-suc (rw pair-number at l)));
-    none = count-kept 0 (omega arith) ∙ t .none;
-    some = λ p l. ⊎-elim (some-new p) (some-old p) (eq-or-lt-of-le (le-of-suc-le-suc (rw pair-number at l)));
-  }
+    -- the pair's count
+    pub grow-value : value (T′ (suc l)) counts (node T′ s (suc l) (suc i)) ≡ count s (suc l) (h l) i (getD s i 0)
+    grow-value =
+        ap (value (T′ (suc l)) counts) (node-next T′ s l i)
+        ∙ sym (grow-kept .stores l hl .counts-are i (getD s i 0) (bytes i))

@@ -1,154 +1,179 @@
--- The places, one after the other: the lent numbers keep the levels, and the race goes on. Assumes nothing.
+-- The places, one after the other: the lent numbers keep the levels, and the race goes on. At the end the first numbers of the space are cleared.
+-- Assumes nothing.
 use Prim.Native.Nat.{ℕ, zero, suc, _+_, _-_, _*_, _≤_, _<_}
-use mathlib.Core.Path.{_≡_, refl, sym, ap, _∙_}
-use mathlib.Core.Bool.{Bool, true, false, cond}
+use mathlib.Core.Path.{_≡_, refl, ap, _∙_}
 use mathlib.Core.List.{List, _++_}
 use native.Mathlib.Omega.{arith}
 use native.Mathlib.Decide.{decLt}
-use lib.ListN.{length, getD, replicate, take, drop, length-append}
-use lib.Seq.{length-take-le, take-at, drop-at}
-use borrow.Rule.Slice.PartMut.{postOf}
-use borrow.Author.Tests.{lt-ltb}
-use mir.Val.{Fits}
-use mir.Syntax.{w8}
+use lib.ListN.{length, getD, set, replicate, take, drop, length-set, length-replicate, getD-replicate}
+use lib.Seq.{length-take-le, length-front, drop-append-add, drop-drop, getD-set-other}
+use borrow.Author.Tests.{le-ltb}
 use Rattle.capture.specs.Limit.{symbolLimit}
-use Rattle.race.specs.Race.{silent, says, judge, scored, hits, longest}
+use Rattle.race.specs.Race.{silent, judge, scored}
 use Rattle.race.specs.Held.{silence, heard, heardFrom, after, tallied, counterLimit, Countable, Scorable}
 use Rattle.race.specs.declared.Tally.{Tally}
 use Rattle.race.proofs.Step.{Raced, race-starts, race-length, race-winner, race-countable, race-scorable, race-idle, race-step}
 use Rattle.mmc_bits.specs.Levels.{firstPlace}
-use Rattle.mmc_store.specs.Counts.{predicted}
-use Rattle.mmc_store.specs.Levels.{found, level, guess}
-use Rattle.mmc_bits.specs.Steps.{spoken}
-use Rattle.mmc_store.specs.Mmc.{tallyOf}
 use Rattle.mmc_bits.specs.Mmc.{truth}
+use Rattle.table.specs.Table as T
+use Rattle.mmc_store.specs.Levels.{level, guess}
+use Rattle.mmc_store.specs.Words.{node}
+use Rattle.mmc_store.specs.Places.{tables, reached, Held, Spots, Stands, Place, Quiet, Said}
+use Rattle.mmc_store.specs.Mmc.{tallyOf}
 use Rattle.mmc_store.specs.Space.{size, final}
-use Rattle.mmc_store.specs.Part.{partSize}
-use Rattle.mmc_store.specs.Places.{part, Kept, Quiet, Said}
-use Rattle.mmc_store.proofs.Bounds.{byte, predicted-lt}
-use Rattle.mmc_store.proofs.Empty.{empty-held}
-use Rattle.mmc_store.proofs.Parts.{zeros-part}
-use Rattle.mmc_store.proofs.Steps.{level-early}
-use Rattle.mmc_store.proofs.Turns.{quiet-guess}
+use Rattle.mmc_store.proofs.Few.{few-empty}
+use Rattle.mmc_store.proofs.Telling.{heard-guess, quiet-guess}
+use Rattle.mmc_store.proofs.Parts.{zeros-at, zeros-part}
+use Rattle.mmc_store.proofs.Kept.{empty-kept}
 
-pub size-is : (n : ℕ) → size n ≡ n * partSize
-unfolding size
-size-is n = refl
-
-pub limit-fits : (n : ℕ) → n ≤ symbolLimit → n < 4294967296
+pub limit-fits : (n : ℕ) → n ≤ symbolLimit → n ≤ 16777216
 unfolding symbolLimit
 limit-fits n l = omega arith
 
--- the race hears what a level says
-heard-guess : (cap : ℕ) (s : List ℕ) (i d : ℕ) → heard (spoken (guess cap s i d)) ≡ guess cap s i d
-unfolding guess
-heard-guess cap s i d = go (found s (level cap s i) i (suc d))
-  where
-    go : (b : Bool) → heard (spoken (cond b (says (predicted s (suc d) (level cap s i (suc d) .places) i)) silent)) ≡ cond b (says (predicted s (suc d) (level cap s i (suc d) .places) i)) silent
-    go true = rw (lt-ltb (predicted s (suc d) (level cap s i (suc d) .places) i) silence (predicted-lt s (suc d) (level cap s i (suc d) .places) i))
-    go false = refl
+-- the guesses, before a place
+pub quiet-start : (n : ℕ) → Quiet n (replicate n silence)
+quiet-start n = record { full = length-replicate n silence; quiet = λ j h. getD-replicate n j silence 0 h }
 
 -- what the code holds before place i
-pub record Run (n cap : ℕ) (s space guesses scores : List ℕ) (winner : ℕ) (tally : Tally) (i : ℕ) : Type 0 where
+pub record Run (n cap : ℕ) (s space entries nodes : List ℕ) (live : ℕ) (scores : List ℕ) (winner : ℕ) (tally : Tally) (i : ℕ) : Type 0 where
+  pub some : 0 < n
+  pub short : length s ≤ 16777216
+  pub bytes : (j : ℕ) → getD s j 0 < 256
   pub within : i ≤ length s
-  pub kept : Kept n cap s i 0 space
-  pub quiet : Quiet n i guesses
+  pub stands : Stands n cap s i live entries nodes space
   pub raced : Raced n firstPlace (guess cap s) (truth s) (i - firstPlace) winner scores tally
 
-zeros-kept : (n cap : ℕ) (s m : List ℕ) → length m ≡ n * partSize → m ≡ replicate (length m) 0 → Kept n cap s 0 0 m
-zeros-kept n cap s m l z =
-    record {
-      long = l;
-      done = λ j h. absurd (let u : 1 ≤ 0 = omega arith in omega arith);
-      waits = λ j h u. (let w = zeros-part n j m h l z in rw (level-early cap s 0 (j + 1) (omega arith)) (empty-held s (j + 1) (part j m) (w .0) (w .1)));
-    }
+-- ---- k numbers were cleared, and no place is counted
+module _ (n cap k : ℕ) (s m : List ℕ) (long : k ≡ suc n * T.size) (clear : m ≡ replicate k 0) where
+  long-start : length m ≡ k
+  long-start = ap length clear ∙ length-replicate k 0
 
-pub run-start : (n cap : ℕ) (s m d : List ℕ) → length d ≡ size n → length m ≡ length d → m ≡ replicate (length d) 0 → (gs : List ℕ) → length gs ≡ n → ((j : ℕ) → j < n → getD gs j 0 ≡ silence)
-    → Run n cap s m gs (replicate n 0) 0 (record { hits = 0; run = 0; longest = 0 }) 0
-run-start n cap s m d l e z gs f q =
-    record {
-      within = omega arith;
-      kept = zeros-kept n cap s m (e ∙ l ∙ size-is n) (z ∙ ap (λ k. replicate k 0) (sym e));
-      quiet = record { full = f; quiet = λ j h u. q j h };
-      raced = race-starts n firstPlace (guess cap s) (truth s);
-    }
+  table-start : (j : ℕ) → j ≤ n → (length (tables m j) ≡ T.size) × ((a : ℕ) → getD (tables m j) a 0 ≡ 0)
+  table-start j h = zeros-part (suc n) j m (omega arith) (long-start ∙ long) (rw long-start clear)
 
-module _ {n cap : ℕ} (some : 0 < n) {s space gs scores : List ℕ} {winner : ℕ} {tally : Tally} {i : ℕ} (r : Run n cap s space gs scores winner tally i) where
+  reached-start : (l : ℕ) → reached 0 0 l ≡ 0
+  reached-start l = rw (le-ltb l 0 (omega arith))
+
+  held-start : Held n cap s 0 0 (replicate n 0) m
+  unfolding level
+  held-start = record {
+    long = long-start ∙ long;
+    full = length-replicate n 0;
+    kept = empty-kept n s (λ l. level cap s (reached 0 0 l) (suc l) .places) (tables m) table-start (λ l. rw (reached-start l));
+    entries-are = λ l a. zeros-at n l ∙ rw (reached-start l);
+    roomy = λ l a. rw (reached-start l, table-start (suc l) a .1 T.numberAt) (few-empty (suc n) cap s (suc l));
+  }
+
+  spots-start : Spots n (tables m) s 0 n (replicate (suc n) 0)
+  spots-start = record {
+    full = length-replicate (suc n) 0;
+    each = λ l a b. absurd (omega arith);
+    gone = λ l a b. absurd (omega arith);
+    beyond = λ l a. zeros-at (suc n) l;
+  }
+
+  pub run-start : 0 < n →
+      length s ≤ 16777216 →
+      ((j : ℕ) → getD s j 0 < 256) →
+      Run n cap s m (replicate n 0) (replicate (suc n) 0) n (replicate n 0) 0 (record { hits = 0; run = 0; longest = 0 }) 0
+  run-start some short bytes = record {
+    some = some;
+    short = short;
+    bytes = bytes;
+    within = omega arith;
+    stands = record {
+      held = held-start;
+      still = record { within = omega arith; full = length-replicate n 0; capped = λ j a b. absurd (omega arith) };
+      spots = spots-start;
+    };
+    raced = race-starts n firstPlace (guess cap s) (truth s);
+  }
+
+-- ---- one place
+module _ {n cap : ℕ} {s space es nodes scores : List ℕ} {live winner : ℕ} {tally : Tally} {i : ℕ}
+    (r : Run n cap s space es nodes live scores winner tally i) where
   pub winner-lt : winner < n
-  winner-lt = race-winner (r .raced) some
+  winner-lt = race-winner (r .raced) (r .some)
 
   pub scores-full : length scores ≡ n
   scores-full = race-length (r .raced)
 
-  -- place i is predicted
-  module _ (lt : i < length s) (short : length s < 4294967296) (fits : Fits w8 (getD s i 0)) where
+  module _ (more : i < length s) where
+    pub place-of : Place s i
+    place-of = record { within = more; short = r .short; bytes = r .bytes }
+
     few : i - firstPlace < counterLimit
-    few = omega arith
+    few = omega (arith, r .short)
 
     pub countable : Countable tally (getD s i 0)
-    countable = race-countable (r .raced) (getD s i 0) (byte fits) few
+    countable = race-countable (r .raced) (getD s i 0) (r .bytes i) few
 
-    module _ (gs′ : List ℕ) (sd : Said n cap s i n gs′) where
-      pub scorable : Scorable scores gs′ winner (getD s i 0)
-      scorable = race-scorable (r .raced) (getD s i 0) gs′ (byte fits) few some (sd .full)
+    module _ {gs : List ℕ} (said : Said n cap s i gs) where
+      pub scorable : Scorable scores gs winner (getD s i 0)
+      scorable = race-scorable (r .raced) (getD s i 0) gs (r .bytes i) few (r .some) (said .full)
 
-      said-guess : (j : ℕ) → j < n → heardFrom gs′ j ≡ guess cap s i j
-      said-guess j h = ap heard (sd .each j h) ∙ heard-guess cap s i j
+      says : (j : ℕ) → j < n → heardFrom gs j ≡ guess cap s i j
+      says j h = ap heard (said .each j h) ∙ heard-guess cap s i j
 
-      said-none : i < firstPlace → (j : ℕ) → j < n → heardFrom gs′ j ≡ silent
-      said-none l j h = ap heard (sd .each j h ∙ quiet-guess cap s i j (omega arith))
+      silent-before : i < firstPlace → (j : ℕ) → j < n → heardFrom gs j ≡ silent
+      silent-before l j h = ap heard (said .each j h ∙ quiet-guess cap s i j (omega arith))
 
-      module _ (winner′ : ℕ) (scores′ : List ℕ) (tally′ : Tally) (se : after winner′ scores′ ≡ scored (heardFrom gs′) (getD s i 0) (after winner scores) (length gs′)) (te : tally′ ≡ tallied (judge (heardFrom gs′ winner) (getD s i 0)) tally) where
+      module _ {winner′ : ℕ} {scores′ : List ℕ} {tally′ : Tally}
+          (se : after winner′ scores′ ≡ scored (heardFrom gs) (getD s i 0) (after winner scores) (length gs))
+          (te : tally′ ≡ tallied (judge (heardFrom gs winner) (getD s i 0)) tally) where
         raced-next : Raced n firstPlace (guess cap s) (truth s) (i + 1 - firstPlace) winner′ scores′ tally′
         raced-next = go (decLt i firstPlace)
           where
             go : Dec (i < firstPlace) → Raced n firstPlace (guess cap s) (truth s) (i + 1 - firstPlace) winner′ scores′ tally′
             go (yes l) =
                 let e : i + 1 - firstPlace ≡ i - firstPlace = omega arith in
-                rw e (race-idle (r .raced) (getD s i 0) gs′ some (sd .full) (said-none l) winner′ scores′ tally′ se te)
+                rw e (race-idle (r .raced) (getD s i 0) gs (r .some) (said .full) (silent-before l) winner′ scores′ tally′ se te)
             go (no f) =
                 let e : i + 1 - firstPlace ≡ i - firstPlace + 1 = omega arith in
                 let p : firstPlace + (i - firstPlace) ≡ i = omega arith in
-                rw e (race-step (r .raced) (getD s i 0) gs′ some (sd .full) (rw p) (rw p said-guess) winner′ scores′ tally′ se te)
+                rw e (race-step (r .raced) (getD s i 0) gs (r .some) (said .full) (rw p) (rw p says) winner′ scores′ tally′ se te)
 
-        pub run-next : (space′ : List ℕ) → Kept n cap s (i + 1) 0 space′ → Run n cap s space′ gs′ scores′ winner′ tally′ (i + 1)
-        run-next space′ k =
-            record {
-              within = omega arith;
-              kept = k;
-              quiet = record { full = sd .full; quiet = λ j h u. sd .each j h ∙ quiet-guess cap s i j (omega arith) };
-              raced = raced-next;
-            }
+        pub run-next : {space′ es′ nodes′ : List ℕ} {live′ : ℕ} →
+            Stands n cap s (i + 1) live′ es′ nodes′ space′ →
+            Run n cap s space′ es′ nodes′ live′ scores′ winner′ tally′ (i + 1)
+        run-next stands = record {
+          some = r .some;
+          short = r .short;
+          bytes = r .bytes;
+          within = omega arith;
+          stands = stands;
+          raced = raced-next;
+        }
 
--- after the last place
-pub run-tally : {n cap : ℕ} {s space gs scores : List ℕ} {winner : ℕ} {tally : Tally} {i : ℕ} → Run n cap s space gs scores winner tally i → length s ≤ i → tally ≡ tallyOf n cap s
-run-tally {s} {tally} {i} r l =
-    let e : i ≡ length s = omega (arith, r .within) in
-    rw (← e, ← r .raced .hits-are, ← r .raced .run-is, ← r .raced .longest-is)
+  -- after the last place
+  pub run-tally : length s ≤ i → tally ≡ tallyOf n cap s
+  run-tally l =
+      let e : i ≡ length s = omega (arith, r .within) in
+      rw (← e, ← r .raced .hits-are, ← r .raced .run-is, ← r .raced .longest-is)
 
-pub guesses-quiet : (n j : ℕ) → j < n → _≡_ {A = ℕ} (getD (replicate n silence) j 0) silence
-guesses-quiet zero j l = absurd (let z : 1 ≤ 0 = omega arith in omega arith)
-guesses-quiet (suc n) zero l = refl
-guesses-quiet (suc n) (suc j) l = guesses-quiet n j (omega arith)
+-- ---- the first a numbers of the space are lent to the run, which leaves m there, and then the first b are cleared: z
+pub record Lent (n a b : ℕ) (xs : List ℕ) : Type 0 where
+  pub among : a ≤ b
+  pub all : b ≡ size n
+  pub fits : size n ≤ length xs
 
--- ---- the first numbers of the space are lent to the run, which leaves m there, and then they are cleared: z
-module _ (n : ℕ) (xs : List ℕ) (l : size n ≤ length xs) where
-  abbrev k : ℕ
-  k = n * partSize
+module _ {n a b : ℕ} {xs : List ℕ} (w : Lent n a b xs) where
+  pub lent-fits : a ≤ length xs
+  lent-fits = omega arith
 
-  pub lent-long : length (take k xs) ≡ size n
-  lent-long = length-take-le k xs (omega (arith, size-is n)) ∙ sym (size-is n)
+  pub lent-long : length (take a xs) ≡ a
+  lent-long = length-take-le a xs lent-fits
 
-  module _ (m : List ℕ) (e : length m ≡ length (take k xs)) where
-    left-long : length m ≡ k
-    left-long = e ∙ lent-long ∙ size-is n
+  module _ (m : List ℕ) (back : length m ≡ length (take a xs)) where
+    pub clear-fits : b ≤ length (m ++ drop a xs)
+    clear-fits = rw (length-front xs m a back) (omega arith)
 
-    pub fits-again : k ≤ length (m ++ postOf 0 k xs)
-    fits-again = simp length-append (omega (arith, left-long))
+    rest : drop b (m ++ drop a xs) ≡ drop b xs
+    rest =
+        let e : b ≡ length m + (b - a) = omega (arith, lent-long) in
+        let f : a + (b - a) ≡ b = omega arith in
+        ap (λ j. drop j (m ++ drop a xs)) e ∙ drop-append-add m (drop a xs) (b - a) ∙ drop-drop (b - a) a xs ∙ ap (λ j. drop j xs) f
 
-    pub final-is : (z : List ℕ) → z ≡ replicate (length (take k (m ++ postOf 0 k xs))) 0 → z ++ postOf 0 k (m ++ postOf 0 k xs) ≡ final n xs
+    pub final-is : {z : List ℕ} → z ≡ replicate (length (take b (m ++ drop a xs))) 0 → z ++ drop b (m ++ drop a xs) ≡ final n xs
     unfolding final
-    final-is z q =
-        let long : length (take k (m ++ postOf 0 k xs)) ≡ size n = ap length (take-at m (postOf 0 k xs) k left-long) ∙ left-long ∙ sym (size-is n) in
-        let rest : drop k (m ++ postOf 0 k xs) ≡ drop k xs = drop-at m (postOf 0 k xs) k left-long in
-        ap (λ l. l ++ postOf 0 k (m ++ postOf 0 k xs)) (q ∙ ap (λ j. replicate j 0) long) ∙ ap (λ l. replicate (size n) 0 ++ l) (rest ∙ ap (λ j. drop j xs) (sym (size-is n)))
+    final-is q = rw (q, rest, length-take-le b (m ++ drop a xs) clear-fits, w .all)

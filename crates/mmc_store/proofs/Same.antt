@@ -1,17 +1,15 @@
--- Contexts that are the same: an equivalence, which the hash respects.
+-- Places with the same context: each with itself, and two of them with the same others. The newest symbol may be compared first.
 -- Assumes nothing.
-use Prim.Native.Nat.{ℕ, zero, suc, _-_, _<_, _≤_}
-use mathlib.Core.Path.{_≡_, refl, sym, _∙_}
+use Prim.Native.Nat.{ℕ, zero, suc, _-_, _≤_}
+use mathlib.Core.Path.{_≡_, refl, ap, _∙_}
 use mathlib.Core.Bool.{Bool, true, false, _&&_}
 use mathlib.Core.List.{List}
-use native.Mathlib.Numerals.{sub-one}
 use native.Mathlib.Nat.{not-suc-le-zero}
 use native.Mathlib.Omega.{arith}
 use lib.ListN.{getD}
 use lib.Dec.{eqb}
-use borrow.Author.Tests.{eqb-true, eq-eqb, ne-eqb}
+use borrow.Author.Tests.{eqb-true, eq-eqb}
 use Rattle.mmc_store.specs.Counts.{same}
-use Rattle.mmc_store.specs.Part.{hashOf}
 
 pub and-left : (a b : Bool) → (a && b) ≡ true → a ≡ true
 and-left true b e = refl
@@ -21,13 +19,12 @@ pub and-right : (a b : Bool) → (a && b) ≡ true → b ≡ true
 and-right true b e = e
 and-right false b e = let z : _≡_ {A = ℕ} 0 1 = cc in absurd (let f : 1 ≤ 0 = omega arith in not-suc-le-zero f)
 
-module _ (s : List ℕ) where
-  -- one symbol of the contexts
-  pub same-step : (k a b : ℕ) → 0 < k → same s k a b ≡ (eqb (getD s (a - k) 0) (getD s (b - k) 0) && same s (k - 1) a b)
-  unfolding same
-  same-step zero a b l = absurd (not-suc-le-zero l)
-  same-step (suc n) a b l = rw (sub-one)
+and-swap : (a b c : Bool) → (a && (b && c)) ≡ (b && (a && c))
+and-swap true b c = refl
+and-swap false true c = refl
+and-swap false false c = refl
 
+module _ (s : List ℕ) where
   pub same-refl : (L a : ℕ) → same s L a a ≡ true
   unfolding same
   same-refl zero a = refl
@@ -38,27 +35,17 @@ module _ (s : List ℕ) where
   unfolding same
   same-right zero a b c e = refl
   same-right (suc n) a b c e =
-      let h : getD s (a - suc n) 0 ≡ getD s (b - suc n) 0 = eqb-true _ _ (and-left (eqb (getD s (a - suc n) 0) (getD s (b - suc n) 0)) (same s n a b) e) in
-      rw (h, same-right n a b c (and-right (eqb (getD s (a - suc n) 0) (getD s (b - suc n) 0)) (same s n a b) e))
+      let t : Bool = eqb (getD s (a - suc n) 0) (getD s (b - suc n) 0) in
+      let h : getD s (a - suc n) 0 ≡ getD s (b - suc n) 0 = eqb-true _ _ (and-left t (same s n a b) e) in
+      rw (h, same-right n a b c (and-right t (same s n a b) e))
 
-  pub same-hash : (L a b : ℕ) → same s L a b ≡ true → hashOf s L a ≡ hashOf s L b
-  unfolding same hashOf
-  same-hash zero a b e = refl
-  same-hash (suc n) a b e =
-      let h : getD s (a - suc n) 0 ≡ getD s (b - suc n) 0 = eqb-true _ _ (and-left (eqb (getD s (a - suc n) 0) (getD s (b - suc n) 0)) (same s n a b) e) in
-      rw (h, same-hash n a b (and-right (eqb (getD s (a - suc n) 0) (getD s (b - suc n) 0)) (same s n a b) e))
-
-  pub same-flip : (L a b : ℕ) → same s L a b ≡ true → same s L b a ≡ true
-  same-flip L a b e = same-right L a b b e ∙ same-refl L b
-
-  -- the turns of a loop that goes from the first symbol of the contexts to the last
-  pub same-on : (L k a b : ℕ) → 0 < k → same s L a b ≡ same s k a b → getD s (a - k) 0 ≡ getD s (b - k) 0 → same s L a b ≡ same s (k - 1) a b
-  same-on L k a b l e h = e ∙ same-step k a b l ∙ rw (eq-eqb (getD s (a - k) 0) (getD s (b - k) 0) h)
-
-  pub same-off : (L k a b : ℕ) → 0 < k → same s L a b ≡ same s k a b → (getD s (a - k) 0 ≡ getD s (b - k) 0 → ⊥) → false ≡ same s L a b
-  same-off L k a b l e h = sym (e ∙ same-step k a b l ∙ rw (ne-eqb (getD s (a - k) 0) (getD s (b - k) 0) h))
-
-  pub same-end : (L k a b : ℕ) → k ≤ 0 → same s L a b ≡ same s k a b → true ≡ same s L a b
+  -- the newest symbol, and the contexts before it
+  pub same-newest : (L a b : ℕ) → same s (suc L) a b ≡ (eqb (getD s (a - 1) 0) (getD s (b - 1) 0) && same s L (a - 1) (b - 1))
   unfolding same
-  same-end L zero a b l e = sym e
-  same-end L (suc k) a b l e = absurd (not-suc-le-zero l)
+  same-newest zero a b = refl
+  same-newest (suc n) a b =
+      let p : a - suc (suc n) ≡ (a - 1) - suc n = omega arith in
+      let q : b - suc (suc n) ≡ (b - 1) - suc n = omega arith in
+      let t : Bool = eqb (getD s ((a - 1) - suc n) 0) (getD s ((b - 1) - suc n) 0) in
+      rw (p, q)
+      (ap (λ (r : Bool). t && r) (same-newest n a b) ∙ and-swap t (eqb (getD s (a - 1) 0) (getD s (b - 1) 0)) (same s n (a - 1) (b - 1)))

@@ -1,181 +1,152 @@
--- A place that is counted: the part keeps it with the places that it kept, whether its context is there or not.
+-- What the tables of one level keep: after a word was made, as a pair of the level or as a context of it, and after a place was counted.
 -- Assumes nothing.
-use Prim.Native.Nat.{ℕ, suc, _+_, _≤_, _<_}
-use mathlib.Core.Path.{_≡_, refl, sym, ap, subst, _∙_}
-use mathlib.Core.Logic.{inl}
-use mathlib.Core.Bool.{Bool, true, false, cond}
+use Prim.Native.Nat.{ℕ, suc, _+_, _*_, _≤_, _<_, max}
+use mathlib.Core.Path.{_≡_, refl, sym, ap, _∙_}
+use mathlib.Core.Bool.{Bool, true, false, cond, _&&_}
 use mathlib.Core.List.{List, _∷_}
 use native.Mathlib.Omega.{arith}
 use native.Mathlib.Decide.{ℕ-discrete}
-use lib.ListN.{length, getD}
+use lib.ListN.{getD}
 use lib.Dec.{eqb}
-use borrow.Author.Tests.{eq-eqb, ne-eqb}
-use Rattle.mmc_store.specs.Counts.{same, count, largest, predicted}
-use Rattle.mmc_store.specs.Part.{capacity, Tidy, Stores, get, hashOf, symbolAt, bestAt, contextsAt, pairsAt, countAt, contextOf, pairOf, keyOf, countIn}
-use Rattle.mmc_store.specs.Step.{newContext, newPair, raised}
-use Rattle.mmc_store.proofs.Largest.{Top, largest-top, top-agree, grown-up}
-use Rattle.mmc_store.proofs.Alike.{context-le, context-one, context-apart, no-pair, same-pairs-of}
-use Rattle.mmc_store.proofs.Grown.{Grown, grown-stores}
-use Rattle.mmc_store.proofs.Made.{context-number, symbol-new, best-new, symbol-old, best-old, same-pairs, new-context-of, new-context-counts, new-context-tidy, pair-number}
-use Rattle.mmc_store.proofs.Counted.{Counted, counted-new}
-use Rattle.mmc_store.proofs.Rise.{raised-kept, raised-tidy, raised-contexts, raised-pairs, raised-of, raised-counts, raised-right}
+use borrow.Author.Tests.{eqb-true, eq-eqb, ne-eqb}
+use Rattle.table.specs.Table.{Table, number, value, entryOf, room, added, valued}
+use Rattle.table.proofs.Laws.{found-within, found-once, found-after, value-old, value-new, every-key, added-table, number-kept, value-here, value-there, key-kept, found-kept, valued-table}
+use Rattle.mmc_store.specs.Counts.{same, count}
+use Rattle.mmc_store.specs.Words.{counts, bests, keyOf, best, Keyed, Stores}
+use Rattle.mmc_store.proofs.Nodes.{key-one, no-key}
+use Rattle.mmc_store.proofs.Best.{best-here, best-there}
 
-clash : {b : Bool} {A : Type 0} → b ≡ false → b ≡ true → A
-clash p q = absurd (let z : _≡_ {A = ℕ} 0 1 = cc in omega arith)
+-- ---- the keys of a table
+-- more numbers
+pub keyed-more : {n n′ : ℕ} {m : List ℕ} → n ≤ n′ → Keyed n m → Keyed n′ m
+keyed-more l k = record { table = k .table; from = k .from; to = λ e h. omega (arith, k .to e h) }
 
--- keys of different contexts differ
-keys-differ : (c d x y : ℕ) → x < 256 → y < 256 → (d ≡ c → ⊥) → keyOf c x ≡ keyOf d y → ⊥
-keys-differ c d x y hx hy f e = omega arith
+-- an entry whose number is there is made
+pub keyed-added :
+    {n : ℕ} {m : List ℕ} → Keyed n m → (c x : ℕ) → x < 256 → 1 ≤ c → c ≤ n → n < room → entryOf m (keyOf c x) ≡ 0 → number m < room →
+    Keyed n (added m (keyOf c x))
+keyed-added {n} {m} k c x hx lo hi small new fits = record {
+  table = added-table (k .table) (keyOf c x) fits new (omega arith);
+  from = every-key (k .table) (keyOf c x) fits (λ y. 256 ≤ y) (omega arith) (k .from);
+  to = every-key (k .table) (keyOf c x) fits (λ y. y < 256 * suc n) (omega arith) (k .to);
+}
 
--- a pair that is missing has no count
-pub count-none : (s : List ℕ) (L : ℕ) (m : List ℕ) → Tidy s L m → (c y : ℕ) → y < 256 → ((1 ≤ c) × (c ≤ get m contextsAt) → ⊥) → (pairOf m (keyOf c y) ≡ 0) × (countIn m c y ≡ 0)
-count-none s L m t c y l f = go (ℕ-discrete (pairOf m (keyOf c y)) 0)
-  where
-    go : Dec (pairOf m (keyOf c y) ≡ 0) → (pairOf m (keyOf c y) ≡ 0) × (countIn m c y ≡ 0)
-    go (yes e) = (e, ap (λ p. get m (countAt p)) e ∙ t .none)
-    go (no d) = absurd (f (no-pair s L m t c y l d))
+pub keyed-valued : {n : ℕ} {m : List ℕ} → Keyed n m → (j e v : ℕ) → j < 2 → Keyed n (valued m j (suc e) v)
+keyed-valued {n} {m} k j e v h = record {
+  table = valued-table (k .table) j (suc e) v h (λ z. omega arith);
+  from = λ d l. rw (key-kept (k .table) j (suc e) v h (suc d)) (k .from d (omega (arith, number-kept (k .table) j (suc e) v)));
+  to = λ d l. rw (key-kept (k .table) j (suc e) v h (suc d)) (k .to d (omega (arith, number-kept (k .table) j (suc e) v)));
+}
 
--- one count has grown by one
-grown-by : (s : List ℕ) (L : ℕ) (m m′ : List ℕ) (c x : ℕ) → Counted s L m m′ c x → (y : ℕ) → countIn m′ c y ≡ countIn m c y + cond (eqb x y) 1 0
-grown-by s L m m′ c x cd y = go (ℕ-discrete x y)
-  where
-    go : Dec (x ≡ y) → countIn m′ c y ≡ countIn m c y + cond (eqb x y) 1 0
-    go (yes e) = subst (λ (y : ℕ). countIn m′ c y ≡ countIn m c y + cond (eqb x y) 1 0) e (rw (eq-eqb x x refl) (cd .here))
-    go (no d) = rw (ne-eqb x y d) (omega (arith, cd .there c y (λ e. d (omega arith))))
+-- ---- tables that keep the same
+pub stores-agree :
+    {s : List ℕ} {L : ℕ} {h : List ℕ} {at : ℕ → ℕ} {c p : List ℕ} → Stores s L h at c p → (at′ : ℕ → ℕ) (c′ p′ : List ℕ) →
+    ((i x : ℕ) → value p′ counts (entryOf p′ (keyOf (at′ i) x)) ≡ value p counts (entryOf p (keyOf (at i) x))) →
+    ((i : ℕ) → value c′ bests (at′ i) ≡ value c bests (at i)) → Stores s L h at′ c′ p′
+stores-agree w at′ c′ p′ f g =
+    record { counts-are = λ i x l. w .counts-are i x l ∙ sym (f i x); bests-are = λ i. w .bests-are i ∙ sym (g i) }
 
--- ---- a context that is there
-module _ (s : List ℕ) (L : ℕ) (h m m₂ : List ℕ) (i e : ℕ) (st : Stores s L h m) (q : contextOf s L m i ≡ suc e) (hx : getD s i 0 < 256) (cd : Counted s L m m₂ (suc e) (getD s i 0)) (more : get m pairsAt ≤ get m₂ pairsAt) where
-  abbrev x : ℕ
-  x = getD s i 0
+-- ---- the pair of the key k is made, without a count
+module _ {p : List ℕ} (t : Table p) (k : ℕ) (fits : number p < room) (new : entryOf p k ≡ 0) where
+  pub pair-made : (q : ℕ) → value (added p k) counts (entryOf (added p k) q) ≡ value p counts (entryOf p q)
+  pair-made q = ap (value (added p k) counts) (found-after t k fits q) ∙ go (eqb k q) refl
+    where
+      go : (b : Bool) → eqb k q ≡ b → value (added p k) counts (cond b (suc (number p)) (entryOf p q)) ≡ value p counts (entryOf p q)
+      go true e =
+          value-new t k fits counts (omega arith) ∙ sym (t .none counts (omega arith))
+          ∙ ap (value p counts) (sym new ∙ ap (entryOf p) (eqb-true k q e))
+      go false e = value-old t k fits counts (entryOf p q) (omega arith) (found-within p q)
 
-  abbrev n : ℕ
-  n = countIn m₂ (suc e) x
+-- ---- the pair of the key k, which has the number d + 1, is counted once more
+module _ {p : List ℕ} (t : Table p) (k d n : ℕ) (is : entryOf p k ≡ suc d) (n-is : n ≡ value p counts (suc d)) where
+  abbrev p″ : List ℕ
+  p″ = valued p counts (suc d) (n + 1)
 
-  abbrev m₄ : List ℕ
-  m₄ = raised m₂ (suc e) x n
+  pair-counted : (q : ℕ) → value p″ counts (entryOf p″ q) ≡ value p counts (entryOf p q) + cond (eqb k q) 1 0
+  pair-counted q = ap (value p″ counts) (found-kept t counts (suc d) (n + 1) (omega arith) q) ∙ go (eqb k q) refl
+    where
+      go : (b : Bool) → eqb k q ≡ b → value p″ counts (entryOf p q) ≡ value p counts (entryOf p q) + cond b 1 0
+      go true e =
+          rw (sym (ap (entryOf p) (eqb-true k q e)) ∙ is)
+          (value-here t counts (suc d) (n + 1) (omega arith) (omega (arith, t .few, found-within p k)) ∙ ap (λ (a : ℕ). a + 1) n-is)
+      go false e =
+          value-there t counts (suc d) (n + 1) counts (entryOf p q)
+          (λ r. (let a : entryOf p q ≡ suc d = omega arith in
+          let u = eq-eqb k q (found-once p k q d is a) in let z : _≡_ {A = ℕ} 0 1 = cc in omega arith))
+          ∙ omega arith
 
-  he : suc e ≤ get m contextsAt
-  he = omega (arith, q, context-le s L m i)
+module _ {s : List ℕ} {L : ℕ} {h : List ℕ} {at : ℕ → ℕ} {c p : List ℕ} (w : Stores s L h at c p) (t : Table c) (i : ℕ)
+    (one : (j : ℕ) → same s L i j ≡ true → at i ≡ at j) where
+  -- ---- the context of i is made, without a count
+  module _ (keyed : Keyed (number c) p) (within : (j : ℕ) → at j ≤ number c) (new : at i ≡ 0) (k : ℕ) (fits : number c < room)
+      (at′ : ℕ → ℕ) (at-is : (j : ℕ) → at′ j ≡ cond (same s L i j) (suc (number c)) (at j)) where
+    way-counts : (j x : ℕ) → x < 256 → (b : Bool) → same s L i j ≡ b → count s L h j x ≡ value p counts (entryOf p (keyOf (at′ j) x))
+    way-counts j x l false q = w .counts-are j x l ∙ ap (λ (n : ℕ). value p counts (entryOf p (keyOf n x))) (sym (at-is j ∙ rw q))
+    way-counts j x l true q =
+        let z : at j ≡ 0 = sym (one j q) ∙ new in
+        w .counts-are j x l
+        ∙ ap (value p counts) (no-key keyed (at j) x l (λ r. omega arith) ∙ sym (no-key keyed (suc (number c)) x l (λ r. omega arith)))
+        ∙ ap (λ (n : ℕ). value p counts (entryOf p (keyOf n x))) (sym (at-is j ∙ rw q))
 
-  hc : suc e ≤ capacity
-  hc = omega (arith, he, st .tidy .few)
+    way-bests : (j : ℕ) (b : Bool) → same s L i j ≡ b → best s L h j ≡ value (added c k) bests (at′ j)
+    way-bests j false q =
+        w .bests-are j ∙ sym (value-old t k fits bests (at j) (omega arith) (within j)) ∙ ap (value (added c k) bests) (sym (at-is j ∙ rw q))
+    way-bests j true q =
+        w .bests-are j ∙ ap (value c bests) (sym (one j q) ∙ new) ∙ t .none bests (omega arith) ∙ sym (value-new t k fits bests (omega arith))
+        ∙ ap (value (added c k) bests) (sym (at-is j ∙ rw q))
 
-  one : (j : ℕ) → same s L i j ≡ true → contextOf s L m j ≡ suc e
-  one j t = sym (context-one s L m i j t) ∙ q
+    pub way-stores : Stores s L h at′ (added c k) p
+    way-stores = record {
+      counts-are = λ j x l. way-counts j x l (same s L i j) refl;
+      bests-are = λ j. way-bests j (same s L i j) refl;
+    }
 
-  contexts : (j : ℕ) (b : Bool) → same s L i j ≡ b → contextOf s L m₄ j ≡ cond b (suc e) (contextOf s L m j)
-  contexts j true t = raised-of s L m₂ (cd .tidy) (suc e) x n hc j ∙ cd .contexts j ∙ one j t
-  contexts j false t = raised-of s L m₂ (cd .tidy) (suc e) x n hc j ∙ cd .contexts j
+  -- ---- the place i is counted: its context has the number e + 1, and its pair d + 1
+  module _ (bytes : (j : ℕ) → getD s j 0 < 256) (e : ℕ) (is : at i ≡ suc e) (apart : (j : ℕ) → at j ≡ suc e → same s L i j ≡ true)
+      (few : suc e ≤ room) (pairs : Table p) (d n : ℕ) (pair-is : entryOf p (keyOf (suc e) (getD s i 0)) ≡ suc d)
+      (n-is : n ≡ value p counts (suc d)) where
+    abbrev x : ℕ
+    x = getD s i 0
 
-  counts : (d y : ℕ) → countIn m₄ d y ≡ countIn m₂ d y
-  counts = raised-counts s L m₂ (cd .tidy) (suc e) x n hc
+    abbrev kx : ℕ
+    kx = keyOf (suc e) x
 
-  top-before : Top (countIn m (suc e)) 256 (get m₂ (symbolAt (suc e)))
-  unfolding predicted
-  top-before =
-      subst (λ (b : ℕ). Top (countIn m (suc e)) 256 b) (sym (cd .symbols (suc e) hc ∙ st .symbols i e q))
-      (top-agree (countIn m (suc e)) (count s L h i) 256 (largest (count s L h i) 256) (λ y l. sym (st .counts i y l ∙ ap (λ c. countIn m c y) q)) (largest-top (count s L h i) 255))
+    abbrev p′ : List ℕ
+    p′ = valued p counts (suc d) (n + 1)
 
-  best-before : get m₂ (bestAt (suc e)) ≡ countIn m (suc e) (get m₂ (symbolAt (suc e)))
-  best-before =
-      cd .bests (suc e) hc ∙ st .bests i e q ∙ st .counts i (predicted s L h i) (subst (λ (b : ℕ). b < 256) (cd .symbols (suc e) hc ∙ st .symbols i e q) (top-before .below))
-      ∙ ap (λ c. countIn m c (predicted s L h i)) q ∙ ap (countIn m (suc e)) (sym (cd .symbols (suc e) hc ∙ st .symbols i e q))
+    abbrev v : ℕ
+    v = max (value c bests (suc e)) (keyOf (n + 1) x)
 
-  right : Top (countIn m₂ (suc e)) 256 (get m₄ (symbolAt (suc e))) × (get m₄ (bestAt (suc e)) ≡ countIn m₂ (suc e) (get m₄ (symbolAt (suc e))))
-  right = raised-right m₂ (suc e) x (cd .tidy .long) hc (countIn m (suc e)) (countIn m₂ (suc e)) hx (cd .here) (λ y l f. cd .there (suc e) y (λ k. f (omega arith))) top-before best-before
+    abbrev c′ : List ℕ
+    c′ = valued c bests (suc e) v
 
-  old-grown : Grown s L h m m₄ i e
-  old-grown = record {
-    tidy = raised-tidy s L m₂ (cd .tidy) (suc e) x n hc;
-    fewer = omega (arith, raised-contexts s L m₂ (cd .tidy) (suc e) x n hc .number, raised-pairs s L m₂ (cd .tidy) (suc e) x n hc .number, cd .number, more, st .fewer);
-    contexts = λ j. contexts j (same s L i j) refl;
-    apart = λ j t r. clash t (context-apart s L m i j e q r);
-    before = λ j y t l. ap (λ c. countIn m c y) (one j t);
-    here = λ y l. counts (suc e) y ∙ grown-by s L m m₂ (suc e) x cd y;
-    there = λ c y l f w. counts c y ∙ cd .there c y (keys-differ (suc e) c x y hx w f);
-    symbols = λ d l f. raised-kept m₂ (suc e) x n (symbolAt (suc d)) (omega arith) ∙ cd .symbols (suc d) (omega (arith, st .tidy .few));
-    bests = λ d l f. raised-kept m₂ (suc e) x n (bestAt (suc d)) (omega arith) ∙ cd .bests (suc d) (omega (arith, st .tidy .few));
-    top = top-agree (countIn m₄ (suc e)) (countIn m₂ (suc e)) 256 (get m₄ (symbolAt (suc e))) (λ y l. counts (suc e) y) (right .0);
-    best = right .1 ∙ sym (counts (suc e) (get m₄ (symbolAt (suc e))));
-  }
+    key-is : (j y : ℕ) → y < 256 → (b : Bool) → same s L i j ≡ b → eqb kx (keyOf (at j) y) ≡ (b && eqb x y)
+    key-is j y l true q = rw (sym (one j q) ∙ is) (go (ℕ-discrete x y))
+      where
+        go : Dec (x ≡ y) → eqb kx (keyOf (suc e) y) ≡ eqb x y
+        go (yes r) = eq-eqb kx (keyOf (suc e) y) (rw r) ∙ sym (eq-eqb x y r)
+        go (no f) = ne-eqb kx (keyOf (suc e) y) (λ r. f (key-one (suc e) (suc e) x y (bytes i) l r .1)) ∙ sym (ne-eqb x y f)
+    key-is j y l false q =
+        ne-eqb kx (keyOf (at j) y)
+        (λ r. (let u = apart j (sym (key-one (suc e) (at j) x y (bytes i) l r .0)) in let z : _≡_ {A = ℕ} 0 1 = cc in omega arith))
 
-  pub old-stores : Stores s L (i ∷ h) m₄
-  old-stores = grown-stores s L h m m₄ i e st old-grown
+    count-counts : (j y : ℕ) → y < 256 → count s L (i ∷ h) j y ≡ value p′ counts (entryOf p′ (keyOf (at j) y))
+    unfolding count
+    count-counts j y l =
+        rw (w .counts-are j y l, sym (key-is j y l (same s L i j) refl)) (sym (pair-counted pairs kx d n pair-is n-is (keyOf (at j) y)))
 
--- ---- a context that is missing
-module _ (s : List ℕ) (L : ℕ) (h m : List ℕ) (i : ℕ) (st : Stores s L h m) (q : contextOf s L m i ≡ 0) (lo : L ≤ i) (hi : i ≤ length s) (hx : getD s i 0 < 256) (room : get m pairsAt < capacity) where
-  abbrev x₁ : ℕ
-  x₁ = getD s i 0
+    count-here : (j : ℕ) → same s L i j ≡ true → count s L (i ∷ h) j x ≡ n + 1
+    unfolding count
+    count-here j q = rw (q, eq-eqb x x refl, w .counts-are j x (bytes i), sym (one j q) ∙ is, pair-is, n-is)
 
-  abbrev n₁ : ℕ
-  n₁ = get m contextsAt
+    count-bests : (j : ℕ) (b : Bool) → same s L i j ≡ b → best s L (i ∷ h) j ≡ value c′ bests (at j)
+    count-bests j true q =
+        best-here s L h i j (bytes i) q
+        ∙ rw (count-here j q, w .bests-are j, sym (one j q) ∙ is) (sym (value-here t bests (suc e) v (omega arith) few))
+    count-bests j false q =
+        best-there s L h i j q ∙ w .bests-are j
+        ∙ sym (value-there t bests (suc e) v bests (at j)
+        (λ r. (let a : at j ≡ suc e = omega arith in let u = apart j a in let z : _≡_ {A = ℕ} 0 1 = cc in omega arith)))
 
-  abbrev m₁ : List ℕ
-  m₁ = newContext m (hashOf s L i) i x₁
-
-  abbrev m₅ : List ℕ
-  m₅ = newPair m₁ (keyOf (suc n₁) x₁)
-
-  fits : n₁ < capacity
-  fits = omega (arith, st .fewer)
-
-  t₁ : Tidy s L m₁
-  t₁ = new-context-tidy s L m (st .tidy) i x₁ lo hi fits
-
-  number₁ : get m₁ contextsAt ≡ suc n₁
-  number₁ = context-number s L m (st .tidy) i x₁ lo hi fits
-
-  pairs₁ : get m₁ pairsAt ≡ get m pairsAt
-  pairs₁ = same-pairs s L m (st .tidy) i x₁ lo hi fits .number
-
-  counts₁ : (c y : ℕ) → countIn m₁ c y ≡ countIn m c y
-  counts₁ = new-context-counts s L m (st .tidy) i x₁ lo hi fits
-
-  -- neither the new number nor 0 has a pair yet
-  none-new : (y : ℕ) → y < 256 → (pairOf m (keyOf (suc n₁) y) ≡ 0) × (countIn m (suc n₁) y ≡ 0)
-  none-new y l = count-none s L m (st .tidy) (suc n₁) y l (λ w. omega arith)
-
-  none-zero : (y : ℕ) → y < 256 → countIn m 0 y ≡ 0
-  none-zero y l = count-none s L m (st .tidy) 0 y l (λ w. omega arith) .1
-
-  absent : pairOf m₁ (keyOf (suc n₁) x₁) ≡ 0
-  absent = same-pairs-of s L m m₁ (st .tidy) (same-pairs s L m (st .tidy) i x₁ lo hi fits) (keyOf (suc n₁) x₁) ∙ none-new x₁ hx .0
-
-  cd₁ : Counted s L m₁ m₅ (suc n₁) x₁
-  cd₁ = counted-new s L m₁ t₁ (suc n₁) x₁ (omega arith) (omega (arith, number₁)) hx (omega (arith, pairs₁)) absent
-
-  pub pairs₅ : get m₅ pairsAt ≡ get m pairsAt + 1
-  pairs₅ = pair-number s L m₁ t₁ (keyOf (suc n₁) x₁) (omega arith) (omega (arith, number₁)) (omega (arith, pairs₁)) ∙ (let z : suc (get m₁ pairsAt) ≡ get m pairsAt + 1 = omega (arith, pairs₁) in z)
-
-  zero-before : (j y : ℕ) → same s L i j ≡ true → y < 256 → countIn m (contextOf s L m j) y ≡ 0
-  zero-before j y t l = ap (λ c. countIn m c y) (sym (context-one s L m i j t) ∙ q) ∙ none-zero y l
-
-  symbol₅ : get m₅ (symbolAt (suc n₁)) ≡ x₁
-  symbol₅ = cd₁ .symbols (suc n₁) (omega (arith, fits)) ∙ symbol-new s L m (st .tidy) i x₁ lo hi fits
-
-  best₅ : get m₅ (bestAt (suc n₁)) ≡ 1
-  best₅ = cd₁ .bests (suc n₁) (omega (arith, fits)) ∙ best-new s L m (st .tidy) i x₁ lo hi fits
-
-  one₅ : countIn m₅ (suc n₁) x₁ ≡ 1
-  one₅ = cd₁ .here ∙ ap (λ n. n + 1) (counts₁ (suc n₁) x₁ ∙ none-new x₁ hx .1)
-
-  top₅ : (b : ℕ) → Top (countIn m₁ (suc n₁)) 256 b → Top (countIn m₅ (suc n₁)) 256 x₁
-  top₅ b w = grown-up (countIn m₁ (suc n₁)) (countIn m₅ (suc n₁)) 255 x₁ hx (cd₁ .here) (λ y l f. cd₁ .there (suc n₁) y (λ k. f (omega arith))) b w (inl (omega (arith, one₅, counts₁ (suc n₁) b, none-new b (w .below) .1)))
-
-  new-grown : Grown s L h m m₅ i n₁
-  new-grown = record {
-    tidy = cd₁ .tidy;
-    fewer = omega (arith, cd₁ .number, number₁, pairs₅, st .fewer);
-    contexts = λ j. cd₁ .contexts j ∙ new-context-of s L m (st .tidy) i x₁ lo hi fits j;
-    apart = λ j t r. omega (arith, r, context-le s L m j);
-    before = λ j y t l. zero-before j y t l ∙ sym (none-new y l .1);
-    here = λ y l. grown-by s L m₁ m₅ (suc n₁) x₁ cd₁ y ∙ ap (λ n. n + cond (eqb x₁ y) 1 0) (counts₁ (suc n₁) y);
-    there = λ c y l f w. cd₁ .there c y (keys-differ (suc n₁) c x₁ y hx w f) ∙ counts₁ c y;
-    symbols = λ d l f. cd₁ .symbols (suc d) (omega (arith, fits)) ∙ symbol-old s L m (st .tidy) i x₁ lo hi fits d l;
-    bests = λ d l f. cd₁ .bests (suc d) (omega (arith, fits)) ∙ best-old s L m (st .tidy) i x₁ lo hi fits d l;
-    top = subst (λ (b : ℕ). Top (countIn m₅ (suc n₁)) 256 b) (sym symbol₅) (top₅ (largest (countIn m₁ (suc n₁)) 256) (largest-top (countIn m₁ (suc n₁)) 255));
-    best = best₅ ∙ sym (ap (countIn m₅ (suc n₁)) symbol₅ ∙ one₅);
-  }
-
-  pub new-stores : Stores s L (i ∷ h) m₅
-  new-stores = grown-stores s L h m m₅ i n₁ st new-grown
+    pub count-stores : Stores s L (i ∷ h) at c′ p′
+    count-stores = record { counts-are = count-counts; bests-are = λ j. count-bests j (same s L i j) refl }

@@ -2,7 +2,7 @@ pub mod Counts
 pub mod Levels
 pub mod Mmc
 pub mod Space
-pub mod Part
-pub mod Step
+pub mod Words
+pub mod Ways
 pub mod Answers
 pub mod Places

@@ -1,63 +1,57 @@
-// One level at one place.
-use crate::Context;
-use crate::count::count_absent;
-use crate::count::count_found;
-use crate::find::find_context;
-use crate::part::PART;
-use crate::part::SYMBOLS;
-use crate::part::read;
+// One level counts one place.
+use crate::tables::make_in;
+use crate::tables::tally;
+use crate::tables::value_in;
 ghost use mathlib.Core.Path.{_≡_};
-ghost use Prim.Native.Nat.{_+_, _*_, _<_};
-ghost use lib.ListN.{length};
+ghost use mathlib.Core.Bool.{_&&_};
+ghost use lib.Dec.{ltb};
 ghost use Rattle.mmc_bits.specs.Levels.{levels, cap};
-ghost use Rattle.mmc_store.specs.Levels.{level};
-ghost use Rattle.mmc_store.specs.Answers.{answer};
-ghost use Rattle.mmc_store.specs.Part.{partSize, Held};
-ghost use Rattle.mmc_store.specs.Places.{part, Site, OneGrown};
+ghost use Rattle.mmc_store.specs.Places.{Ready, Through};
 
-// Looks up the context of `place`, where every shorter one is present, and counts the place.
-fn level_step(
-    s: &[u8],
-    m: &mut [u32],
-    n: usize,
-    place: usize,
-    hash: usize,
-    shorter: bool,
-) -> Context
-    requires { ⌜ Site cap (now s) n place hash shorter (now m) ⌝ }
-    ensures { λ r. ⌜ r ≡ answer cap (now (s .entry)) place n ⌝ }
-    ensures { λ _. ⌜ Held (now (s .entry)) n (level cap (now (s .entry)) (place + 1) n) (now (m .exit)) ⌝ }
+// How many entries a level makes.
+pub const CAP: usize = 100_000;
+
+// Whether the context is found and the pair was counted before: then it is counted again.
+fn again(found: bool, n: usize) -> bool
+    ensures { λ r. ⌜ r ≡ (found && ltb 0 n) ⌝ }
 {
-    if shorter {
-        let c = find_context(s, m, n, place, hash);
-        if c == 0 {
-            count_absent(s, m, n, place, hash);
-            return Context::Absent;
-        }
-        let x = read(m, SYMBOLS + 4 * c) as u8;
-        count_found(s, m, n, place, c);
-        return Context::Present(x);
+    if found {
+        return 0 < n;
     }
-    count_absent(s, m, n, place, hash);
-    Context::Absent
+    false
 }
 
-// The same for level l + 1, in its own part of the lent numbers.
-pub fn level_in_part(
+// Counts the pair of `place` at level l + 1, whose context there has the number c, and says the pair's number, which is that of the context of
+// level l + 2 at the next place. "below the cap it adds one to the pair and one to the entry number without asking whether the pair is new; at
+// the cap nothing is counted". A missing pair is made wherever this level or a longer one may still count: where it is not counted it is only a
+// way to longer words.
+pub fn count_level(
     s: &[u8],
     space: &mut [u32],
+    entries: &mut [usize; 16],
     l: usize,
     place: usize,
-    hash: usize,
-    shorter: bool,
-) -> Context
-    requires { ⌜ Site cap (now s) (l + 1) place hash shorter (part l (now space)) ⌝ }
-    requires { ⌜ (l < levels) × (length (now space) ≡ levels * partSize) ⌝ }
-    ensures { λ r. ⌜ r ≡ answer cap (now (s .entry)) place (l + 1) ⌝ }
-    ensures { λ _. ⌜ Held (now (s .entry)) (l + 1) (level cap (now (s .entry)) (place + 1) (l + 1)) (part l (now (space .exit))) ⌝ }
-    ensures { λ _. ⌜ OneGrown levels l (now (space .entry)) (now (space .exit)) ⌝ }
+    c: usize,
+    found: bool,
+    live: usize,
+) -> usize
+    requires { ⌜ Ready levels cap (now s) place l c found live (now entries) (now space) ⌝ }
+    ensures { λ r. ⌜ Through levels cap (now (s .entry)) place l live r (now (space .entry)) (now (entries .exit)) (now (space .exit)) ⌝ }
 {
-    let a = l * PART;
-    let e = a + PART;
-    level_step(s, &mut space[a..e], l + 1, place, hash, shorter)
+    let x = s[place] as usize;
+    let p = make_in(space, l + 1, c * 256 + x, l < live);
+    if p == 0 {
+        return 0;
+    }
+    let n = value_in(space, l + 1, 0, p);
+    if again(found, n) {
+        tally(space, l, c, x, p, n);
+        return p;
+    }
+    if entries[l] >= CAP {
+        return p;
+    }
+    tally(space, l, c, x, p, n);
+    entries[l] += 1;
+    p
 }

@@ -1,10 +1,9 @@
 // MultiMMC over a general alphabet (SP 800-90B 6.3.9): sixteen levels count which symbol followed their contexts, and race.
-mod count;
-mod find;
 mod level;
-mod part;
+mod look;
 mod place;
 pub mod run;
+mod tables;
 
 // "a context is present with its predicted symbol, or absent"
 pub enum Context {

@@ -1,23 +1,11 @@
 // All levels at one place.
-use crate::Context;
-use crate::level::level_in_part;
-use crate::part::HASHES;
-use race::SILENT;
+use crate::level::CAP;
+use crate::level::count_level;
+use crate::look::look;
 ghost use mathlib.Core.Path.{_≡_};
-ghost use Prim.Native.Nat.{_+_, _*_, _%_, _<_, _≤_};
-ghost use lib.ListN.{length};
+ghost use Prim.Native.Nat.{_+_, _<_, _≤_};
 ghost use Rattle.mmc_bits.specs.Levels.{levels, cap};
-ghost use Rattle.mmc_store.specs.Answers.{toldOf};
-ghost use Rattle.mmc_store.specs.Part.{hashes};
-ghost use Rattle.mmc_store.specs.Places.{Kept, Quiet, Said};
-
-// The hash of a context that is one symbol longer.
-fn next_hash(hash: usize, x: u8) -> usize
-    requires { ⌜ hash < hashes ⌝ }
-    ensures { λ r. ⌜ r ≡ (hash * 263 + x + 1) % hashes ⌝ }
-{
-    (hash * 263 + (x as usize) + 1) % HASHES
-}
+ghost use Rattle.mmc_store.specs.Places.{Capped, Lives, Setting, Stands, Said, Quiet, Place};
 
 // The smaller of two numbers.
 fn least(a: usize, b: usize) -> usize
@@ -29,33 +17,70 @@ fn least(a: usize, b: usize) -> usize
     b
 }
 
-// A guess as the race takes it.
-fn told(known: Context) -> u16
-    ensures { λ r. ⌜ r ≡ toldOf known ⌝ }
+// How many levels there are up to the last that is below the cap. No level from `live` on is.
+fn settle(entries: &[usize; 16], live: usize) -> usize
+    requires { ⌜ Capped levels cap (now entries) live ⌝ }
+    ensures { λ r. ⌜ Lives levels cap (now (entries .entry)) live r ⌝ }
 {
-    match known {
-        Context::Present(x) => x as u16,
-        Context::Absent => SILENT,
+    let mut l = live;
+    while 0 < l {
+        if entries[l - 1] < CAP {
+            return l;
+        }
+        l -= 1;
     }
+    l
 }
 
-// What each level says of `place` is written to `guesses`, and the place is counted at each.
-pub fn at_place(s: &[u8], space: &mut [u32], guesses: &mut [u16; 16], place: usize)
-    requires { ⌜ Kept levels cap (now s) place 0 (now space) ⌝ }
-    requires { ⌜ Quiet levels place (now guesses) × (place < length (now s)) × (length (now s) < 4294967296) ⌝ }
-    ensures { λ _. ⌜ Kept levels cap (now (s .entry)) (place + 1) 0 (now (space .exit)) ⌝ }
-    ensures { λ _. ⌜ Said levels cap (now (s .entry)) place levels (now (guesses .exit)) ⌝ }
+// Counts the place at every level, and leaves the numbers of the next place's contexts in `nodes`. A context that is missing has no longer one,
+// and nothing is counted there.
+fn count_place(
+    s: &[u8],
+    space: &mut [u32],
+    entries: &mut [usize; 16],
+    nodes: &mut [usize; 17],
+    place: usize,
+    top: usize,
+    depth: usize,
+    live: usize,
+)
+    requires { ⌜ Stands levels cap (now s) place live (now entries) (now nodes) (now space) ⌝ }
+    requires { ⌜ Setting levels cap (now s) place top depth live ⌝ }
+    ensures { λ _. ⌜ Stands levels cap (now (s .entry)) (place + 1) live (now (entries .exit)) (now (nodes .exit)) (now (space .exit)) ⌝ }
 {
-    let mut hash = 0;
-    let mut shorter = true;
-    let top = least(16, place);
+    let mut carry = s[place] as usize + 1;
     let mut l = 0;
     while l < top {
-        let n = l + 1;
-        hash = next_hash(hash, s[place - n]);
-        let g = told(level_in_part(s, space, l, place, hash, shorter));
-        guesses[l] = g;
-        shorter = g < SILENT;
-        l = n;
+        let c = nodes[l];
+        nodes[l] = carry;
+        if c == 0 {
+            return;
+        }
+        carry = count_level(s, space, entries, l, place, c, l < depth, live);
+        l += 1;
     }
+    nodes[l] = carry;
+}
+
+// What each level says of `place` is written to `guesses`, and the place is counted at each. The levels that may still count are those below the
+// number that is returned.
+pub fn at_place(
+    s: &[u8],
+    space: &mut [u32],
+    entries: &mut [usize; 16],
+    nodes: &mut [usize; 17],
+    guesses: &mut [u16; 16],
+    place: usize,
+    live: usize,
+) -> usize
+    requires { ⌜ Stands levels cap (now s) place live (now entries) (now nodes) (now space) ⌝ }
+    requires { ⌜ Quiet levels (now guesses) × Place (now s) place ⌝ }
+    ensures { λ r. ⌜ Stands levels cap (now (s .entry)) (place + 1) r (now (entries .exit)) (now (nodes .exit)) (now (space .exit)) ⌝ }
+    ensures { λ _. ⌜ Said levels cap (now (s .entry)) place (now (guesses .exit)) ⌝ }
+{
+    let few = settle(entries, live);
+    let top = least(16, place);
+    let depth = look(s, space, nodes, guesses, place, top);
+    count_place(s, space, entries, nodes, place, top, depth, few);
+    few
 }

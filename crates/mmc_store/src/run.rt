@@ -11,9 +11,12 @@ ghost use Rattle.capture.specs.Limit.{symbolLimit};
 ghost use Rattle.mmc_bits.specs.Levels.{levels, cap};
 ghost use Rattle.mmc_store.specs.Mmc.{tallyOf};
 ghost use Rattle.mmc_store.specs.Space.{size, final};
+ghost use Rattle.mmc_store.specs.Places.{store};
 
-// How many numbers sixteen levels take.
+// How many numbers sixteen levels are lent, and how many of them the tables take.
 const SIZE: usize = 16_777_216;
+
+const STORE: usize = 11_141_120;
 
 // Every number is zero: nothing is counted.
 fn clear(space: &mut [u32])
@@ -28,11 +31,13 @@ fn clear(space: &mut [u32])
 
 // All places, one after the other, from cleared numbers on.
 fn run(s: &[u8], space: &mut [u32]) -> Tally
-    requires { ⌜ (length (now s) < 4294967296) × (length (now space) ≡ size levels) ⌝ }
+    requires { ⌜ (length (now s) ≤ 16777216) × (length (now space) ≡ store) ⌝ }
     ensures { λ r. ⌜ r ≡ tallyOf levels cap (now (s .entry)) ⌝ }
 {
     clear(space);
-    let mut guesses = [SILENT; 16];
+    let mut entries = [0usize; 16];
+    let mut nodes = [0usize; 17];
+    let mut live: usize = 16;
     let mut scores = [0u64; 16];
     let mut winner: usize = 0;
     let mut tally = Tally {
@@ -42,7 +47,16 @@ fn run(s: &[u8], space: &mut [u32]) -> Tally
     };
     let mut place = 0;
     while place < s.len() {
-        at_place(s, space, &mut guesses, place);
+        let mut guesses = [SILENT; 16];
+        live = at_place(
+            s,
+            space,
+            &mut entries,
+            &mut nodes,
+            &mut guesses,
+            place,
+            live,
+        );
         let x = s[place] as u16;
         tally = count(tally, guesses[winner], x);
         winner = score(&mut scores, &guesses, winner, x);
@@ -57,7 +71,7 @@ pub fn mmc_symbols(s: &[u8], space: &mut [u32]) -> Tally
     ensures { λ r. ⌜ r ≡ tallyOf levels cap (now (s .entry)) ⌝ }
     ensures { λ _. ⌜ now (space .exit) ≡ final levels (now (space .entry)) ⌝ }
 {
-    let tally = run(s, &mut space[0..SIZE]);
+    let tally = run(s, &mut space[0..STORE]);
     clear(&mut space[0..SIZE]);
     tally
 }

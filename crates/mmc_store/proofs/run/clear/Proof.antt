@@ -1,4 +1,4 @@
--- After i turns the first i numbers are 0 and the others as they were.
+-- `clear` meets its contract: after i turns the first i numbers are 0 and the others as they were. At the end i is the length, so all are 0.
 -- Assumes nothing.
 use Prim.Native.Nat.{_-_, _≤_}
 use mathlib.Core.Path.{_≡_, refl, ap, _∙_}
@@ -7,7 +7,7 @@ use native.Mathlib.Omega.{arith}
 use lib.ListN.{length, replicate, drop, set, length-set}
 use borrow.Author.Fill.{fill-more}
 use borrow.Author.Needs.{scaled-fits}
-use Rattle.mmc_store.proofs.Parts.{filled}
+use Rattle.mmc_store.proofs.Clearing.{filled}
 use Rattle.mmc_store.proofs.run.clear.Statement.{statement}
 use Rattle.mmc_store.proofs.run.clear.Tie as tie
 
@@ -22,9 +22,9 @@ loop-holds c = (refl, refl, omega arith)
 
 mul-space : tie.Need-mul-space Inv-loop μ-loop
 mul-space c =
-    let o = c .before .loop in
-    let a = c .before .before in
-    scaled-fits (o .i) (length (a .args .space .now)) 4 (omega arith) (a .good .0 .1)
+    let here = c .before .loop in
+    let start = c .before .before in
+    scaled-fits (here .i) (length (start .args .space .now)) 4 (omega arith) (start .good .0 .1)
 
 slice-write-space : tie.Need-slice-write-space Inv-loop μ-loop
 slice-write-space c = omega arith
@@ -37,18 +37,21 @@ loop-less c = omega arith
 
 loop-again : tie.Need-loop-again Inv-loop μ-loop
 loop-again c =
-    let o = c .before .loop in
-    let a = c .before .before in
-    (ap (λ l. set l (o .i) 0) (o .inv .0) ∙ fill-more (o .i) 0 (a .args .space .now) (omega arith), simp length-set (o .inv .1), omega arith)
+    let here = c .before .loop in
+    let start = c .before .before in (
+      ap (λ l. set l (here .i) 0) (here .inv .0) ∙ fill-more (here .i) 0 (start .args .space .now) (omega arith),
+      simp length-set (here .inv .1),
+      omega arith,
+    )
 
 same-length : tie.Need-same-length Inv-loop μ-loop
 same-length c = c .before .loop .inv .1
 
 returns : tie.Need-returns Inv-loop μ-loop
 returns c =
-    let o = c .before .loop in
-    let a = c .before .before in
-    filled (a .args .space .now) (o .space) (o .i) (omega arith) (o .inv .0)
+    let here = c .before .loop in
+    let start = c .before .before in
+    filled (start .args .space .now) (here .space) (here .i) (omega arith) (here .inv .0)
 
 pub clear-spec : {M : Type 1} → statement M
 clear-spec =

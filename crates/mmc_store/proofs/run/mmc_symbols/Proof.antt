@@ -1,12 +1,20 @@
--- The run is over the first numbers of the space, as many as its levels take; they are cleared after it, and what stands beyond was not lent.
--- Assumes nothing.
+-- The run is over the first numbers of the space, as many as its tables take, and what stands beyond was not lent. After it the first numbers,
+-- as many as are lent to sixteen levels, are cleared, and the tables are among them. Assumes nothing.
+use mathlib.Core.Path.{refl}
 use native.Mathlib.Omega.{arith}
+use denote.Ref.{now}
 use lib.ListN.{length}
-use Rattle.mmc_bits.specs.Levels.{levels}
-use Rattle.mmc_store.proofs.Running.{size-is, limit-fits, lent-long, fits-again, final-is}
 use borrow.Author.Needs.{needs}
+use Rattle.mmc_bits.specs.Levels.{levels}
+use Rattle.mmc_store.specs.Places.{store}
+use Rattle.mmc_store.specs.Space.{size}
+use Rattle.mmc_store.proofs.Running.{Lent, limit-fits, lent-fits, lent-long, clear-fits, final-is}
 use Rattle.mmc_store.proofs.run.mmc_symbols.Statement.{statement}
 use Rattle.mmc_store.proofs.run.mmc_symbols.Tie as tie
+
+lends : (c : tie.Start) → Lent levels store 16777216 (now (c .args .space))
+unfolding size
+lends c = record { among = omega arith; all = refl; fits = c .pre .1 }
 
 sub-run : tie.Need-sub-run
 sub-run c = search needs
@@ -15,12 +23,12 @@ part-run-start : tie.Need-part-run-start
 part-run-start c = search needs
 
 part-run-end : tie.Need-part-run-end
-part-run-end c = omega (arith, size-is levels, c .before .before .pre .1)
+part-run-end c = lent-fits (lends (c .before .before))
 
 run-requires : tie.Need-run-requires
 run-requires c κs =
-    let a = c .before .before .before in
-    (limit-fits (length (a .args .s .now)) (a .pre .0), lent-long levels (a .args .space .now) (a .pre .1))
+    let start = c .before .before .before in
+    (limit-fits (length (now (start .args .s))) (start .pre .0), lent-long (lends start))
 
 sub-clear : tie.Need-sub-clear
 sub-clear c = search needs
@@ -30,9 +38,8 @@ part-clear-start c = search needs
 
 part-clear-end : tie.Need-part-clear-end
 part-clear-end c =
-    let run = c .before .before .run in
-    let a = c .before .before .before .before .before .before in
-    fits-again levels (a .args .space .now) (a .pre .1) (run .last .1 .0) (run .kept .1 .0)
+    let past = c .before .before in
+    clear-fits (lends (past .before .before .before .before)) (past .run .last .1 .0) (past .run .kept .1 .0)
 
 clear-requires : tie.Need-clear-requires
 clear-requires c κs = search needs
@@ -43,9 +50,8 @@ same-length c = search needs
 returns : tie.Need-returns
 returns c =
     let clear = c .before .before .clear in
-    let run = c .before .before .before .before .before .before .run in
-    let a = c .before .before .before .before .before .before .before .before .before .before in
-    (run .ensures, final-is levels (a .args .space .now) (a .pre .1) (run .last .1 .0) (run .kept .1 .0) (clear .last .0) (clear .ensures))
+    let past = c .before .before .before .before .before .before in
+    (past .run .ensures, final-is (lends (past .before .before .before .before)) (past .run .last .1 .0) (past .run .kept .1 .0) (clear .ensures))
 
 pub mmc-symbols-spec : {M : Type 1} → statement M
 mmc-symbols-spec =

@@ -1,0 +1,23 @@
+-- `lookup` meets its contract: the value that is read is the best of the context, and 0 is that of a word of which nothing was counted. The rest of
+-- a best by 256 is its symbol. Assumes nothing.
+use mathlib.Core.Path.{ap, _∙_}
+use borrow.Author.Needs.{needs}
+use Rattle.mmc_store.specs.Answers.{contextOf}
+use Rattle.mmc_store.proofs.Looking.{answers-absent, answers-present}
+use Rattle.mmc_store.proofs.look.lookup.Statement.{statement}
+use Rattle.mmc_store.proofs.look.lookup.Tie as tie
+
+value-in-requires : tie.Need-value-in-requires
+value-in-requires c κs = search needs
+
+returns : tie.Need-returns
+returns c = answers-absent (c .before .value-in .result) (c .if1 .taken) ∙ ap contextOf (c .before .value-in .ensures .0)
+
+cast-x : tie.Need-cast-x
+cast-x c = search needs
+
+returns-2 : tie.Need-returns-2
+returns-2 c = answers-present (c .before .value-in .result) (c .if1 .left) ∙ ap contextOf (c .before .value-in .ensures .0)
+
+pub lookup-spec : {M : Type 1} → statement M
+lookup-spec = tie.close (tie.spec value-in-requires returns cast-x returns-2)

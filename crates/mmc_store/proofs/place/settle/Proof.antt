@@ -1,0 +1,56 @@
+-- `settle` meets its contract: it goes down from `live` past levels that are at the cap, so that no level from l on is below it. It stops at the
+-- first level that is, or at 0, and then there is none. Assumes nothing.
+use native.Mathlib.Omega.{arith}
+use Rattle.mmc_bits.specs.Levels.{levels, cap}
+use Rattle.mmc_store.proofs.Settling.{Settling, settling-start, settling-next, settled, settled-none}
+use Rattle.mmc_store.proofs.place.settle.Statement.{statement}
+use Rattle.mmc_store.proofs.place.settle.Tie as tie
+
+abbrev Inv-loop : tie.InvT-loop
+Inv-loop entries live l₀ l = Settling levels cap entries live l
+
+abbrev μ-loop : tie.MeasureT-loop
+μ-loop entries live l₀ l = l
+
+loop-holds : tie.Need-loop-holds Inv-loop μ-loop
+loop-holds c = settling-start (c .pre)
+
+sub-if1 : tie.Need-sub-if1 Inv-loop μ-loop
+sub-if1 c = omega arith
+
+mul-if1 : tie.Need-mul-if1 Inv-loop μ-loop
+mul-if1 c = omega arith
+
+element-copy-out-if1 : tie.Need-element-copy-out-if1 Inv-loop μ-loop
+element-copy-out-if1 c = omega arith
+
+returns : tie.Need-returns Inv-loop μ-loop
+returns c = settled (c .before .before .before .loop .inv) (c .before .before .loop-test .taken) (c .if1 .taken)
+
+sub-l : tie.Need-sub-l Inv-loop μ-loop
+sub-l c = omega arith
+
+loop-less : tie.Need-loop-less Inv-loop μ-loop
+loop-less c = omega arith
+
+loop-again : tie.Need-loop-again Inv-loop μ-loop
+loop-again c = settling-next (c .before .before .before .loop .inv) (c .before .before .loop-test .taken) (omega arith)
+
+returns-2 : tie.Need-returns-2 Inv-loop μ-loop
+returns-2 c = settled-none (c .before .loop .inv) (c .loop-test .left)
+
+pub settle-spec : {M : Type 1} → statement M
+settle-spec =
+    tie.close
+    (tie.spec
+    Inv-loop
+    μ-loop
+    loop-holds
+    sub-if1
+    mul-if1
+    element-copy-out-if1
+    returns
+    sub-l
+    loop-less
+    loop-again
+    returns-2)

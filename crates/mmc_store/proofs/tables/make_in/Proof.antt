@@ -1,0 +1,56 @@
+-- The numbers that are lent are those of table t: the entry is found or made there, and every other table stays. Assumes nothing.
+use mathlib.Core.Path.{sym, ap, _∙_}
+use Rattle.table.specs.Table.{entryOf}
+use Rattle.mmc_store.specs.Places.{tablesMost}
+use Rattle.mmc_store.proofs.Parts.{lent-is, back}
+use borrow.Author.Needs.{needs}
+use Rattle.mmc_store.proofs.tables.make_in.Statement.{statement}
+use Rattle.mmc_store.proofs.tables.make_in.Tie as tie
+
+mul-a : tie.Need-mul-a
+mul-a c = search needs
+
+add-b : tie.Need-add-b
+add-b c = search needs
+
+mul-make : tie.Need-mul-make
+mul-make c = search needs
+
+sub-make : tie.Need-sub-make
+sub-make c = search needs
+
+part-make-start : tie.Need-part-make-start
+part-make-start c = search needs
+
+part-make-end : tie.Need-part-make-end
+part-make-end c = search needs
+
+make-requires : tie.Need-make-requires
+make-requires c κs =
+    let start = c .before .before in
+    rw (lent-is (start .args .t) (start .args .space .now)) (start .pre .2, start .pre .3, start .pre .4)
+
+same-length : tie.Need-same-length
+same-length c = search needs
+
+returns : tie.Need-returns
+returns c =
+    let make = c .before .before .make in
+    let start = c .before .before .before .before .before in
+    let new = rw (lent-is (start .args .t) (start .args .space .now)) at (make .ensures .0) in
+    let changed = back tablesMost (start .args .t) (start .args .space .now) (make .last .0) (start .pre .1) (start .pre .0) (make .kept .0) _ new in
+    (changed, make .ensures .1 ∙ ap (λ w. entryOf w (start .args .key)) (new ∙ sym (changed .here)))
+
+pub make-in-spec : {M : Type 1} → statement M
+make-in-spec =
+    tie.close
+    (tie.spec
+    mul-a
+    add-b
+    mul-make
+    sub-make
+    part-make-start
+    part-make-end
+    make-requires
+    same-length
+    returns)
