@@ -1,6 +1,5 @@
 -- What is kept of the predicted symbol, as one number: the largest of all counts with their symbols. It is 0 where the context is absent, and a
--- place that is counted raises it at the places of its context only.
--- Assumes nothing.
+-- place that is counted raises it at the places of its context only. Assumes nothing.
 use Prim.Native.Nat.{ℕ, zero, suc, _+_, _%_, _≤_, _<_, max}
 use mathlib.Core.Path.{_≡_, refl, sym, ap, _∙_}
 use mathlib.Core.Bool.{Bool, true, false, cond, _&&_, _||_}

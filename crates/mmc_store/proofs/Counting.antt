@@ -1,6 +1,6 @@
 -- One level counts one place: what is found of its pair, and what is held once the level is through. Assumes nothing.
 use Prim.Native.Nat.{ℕ, zero, suc, _+_, _-_, _*_, _≤_, _<_, max}
-use mathlib.Core.Path.{_≡_, refl, sym, ap, subst, fun-ext, _∙_}
+use mathlib.Core.Path.{_≡_, refl, sym, ap, subst, _∙_}
 use mathlib.Core.Bool.{Bool, true, false, _&&_}
 use mathlib.Core.List.{List, _∷_}
 use native.Mathlib.Omega.{arith}
@@ -20,10 +20,20 @@ use Rattle.mmc_store.proofs.Entries.{places-le}
 use Rattle.mmc_store.proofs.Becoming.{becomes-again, becomes-new, becomes-same, absent-new, absent-same, count-le}
 use Rattle.mmc_store.proofs.Few.{few-kept, few-new, few-way, few-less, few-within}
 use Rattle.mmc_store.proofs.Nodes.{word-le, node-le, node-next}
-use Rattle.mmc_store.proofs.Kept.{kept-table, kept-places}
-use Rattle.mmc_store.proofs.Made.{grow-same, grow-kept, grow-other, grow-waits, grow-some, grow-number, grow-value}
+use Rattle.mmc_store.proofs.Kept.{kept-table, kept-places, closed-up}
+use Rattle.mmc_store.proofs.Made.{grow-none, grow-kept, grow-other, grow-waits, grow-some, grow-number, grow-value}
 use Rattle.mmc_store.proofs.Counted.{count-node, count-number, count-kept}
 use Rattle.mmc_store.proofs.Reached.{reached-waits, reached-done, reached-other}
+
+-- a pair that is missing was not counted, at a level that is not through with the place
+pub uncounted :
+    {N cap : ℕ} {s : List ℕ} {i k : ℕ} {E m : List ℕ} → Held N cap s i k E m → getD s i 0 < 256 → (j : ℕ) → k ≤ j → j < N →
+    node (tables m) s (suc j) (suc i) ≡ 0 → count s (suc j) (level cap s i (suc j) .places) i (getD s i 0) ≡ 0
+uncounted {N} {cap} {s} {i} {k} {E} {m} w byte j a b z =
+    ap (λ (u : ℕ). count s (suc j) (level cap s u (suc j) .places) i (getD s i 0)) (sym (reached-waits i k j a))
+    ∙ w .kept .stores j b .counts-are i (getD s i 0) byte
+    ∙ ap (value (tables m (suc j)) counts) (sym (node-next (tables m) s j i) ∙ z)
+    ∙ kept-table (w .kept) (suc j) b .none counts (omega arith)
 
 module _
     {N cap : ℕ} (caps : cap + suc N < room) (le : suc N ≤ cap) {s : List ℕ} {i l c : ℕ} {known : Bool} {live : ℕ} {E m : List ℕ}
@@ -113,21 +123,6 @@ module _
   pub key-fits : c * 256 + x < keyLimit
   key-fits = omega (arith, context-few, bytes i)
 
-  -- ---- a pair that is missing was counted at no level that is as long
-  gone : (d : ℕ) → suc l + d ≤ N → node T s (suc l) (suc i) ≡ 0 → node T s (suc l + d) (suc i) ≡ 0
-  gone zero a z = let e : suc l + 0 ≡ suc l = omega arith in rw e z
-  gone (suc d) a z =
-      let e : suc l + suc d ≡ suc (suc l + d) = omega arith in
-      rw e (w .held .kept .closed (suc l + d) (suc i) (omega arith) (gone d (omega arith) z))
-
-  uncounted : node T s (suc l) (suc i) ≡ 0 → (j : ℕ) → l ≤ j → j < N → count s (suc j) (level cap s i (suc j) .places) i x ≡ 0
-  uncounted z j a b =
-      let e : suc l + (j - l) ≡ suc j = omega arith in
-      ap (λ (u : Level). count s (suc j) (u .places) i x) (sym (waits j a))
-      ∙ w .held .kept .stores j b .counts-are i x (bytes i)
-      ∙ ap (value (T (suc j)) counts) (sym (node-next T s j i) ∙ (rw e at (gone (j - l) (omega arith) z)))
-      ∙ kept-table (w .held .kept) (suc j) b .none counts (omega arith)
-
   -- ---- the pair is looked up, and made where it is missing and this level or a longer one may count
   module _
       {m₁ : List ℕ} {p : ℕ} (ch : Changed (l + 1) m m₁ (grown (part (l + 1) m) (c * 256 + x) (ltb l live)))
@@ -167,8 +162,8 @@ module _
     more₁ : number (T₁ (suc l)) ≤ suc (number (T (suc l)))
     more₁ = grow-number (w .held .kept) bytes l i (w .one) parent words-few (few l (w .one)) may newer T₁ grew rest
 
-    same₁ : (node T s (suc l) (suc i) ≡ 0 → may ≡ false) → T₁ (suc l) ≡ T (suc l)
-    same₁ = grow-same (w .held .kept) bytes l i (w .one) parent words-few (few l (w .one)) may newer T₁ grew rest
+    same₁ : (node T s (suc l) (suc i) ≡ 0 → may ≡ false) → T₁ ≡ T
+    same₁ = grow-none (w .held .kept) bytes l i (w .one) parent words-few (few l (w .one)) may newer T₁ grew rest
 
     value₁ : value (T₁ (suc l)) counts (node T₁ s (suc l) (suc i)) ≡ count s (suc l) (v .places) i x
     value₁ =
@@ -185,17 +180,15 @@ module _
 
     -- where no level may count, nothing was made
     idle₁ : live ≤ l → (j : ℕ) → node T₁ s (suc l) j ≡ node T s (suc l) j
-    idle₁ a j = ap (λ (U : ℕ → List ℕ). node U s (suc l) j) (fun-ext (λ t. go t (ℕ-discrete t (suc l))))
-      where
-        go : (t : ℕ) → Dec (t ≡ suc l) → T₁ t ≡ T t
-        go t (yes e) = subst (λ (t : ℕ). T₁ t ≡ T t) (sym e) (same₁ (λ z. le-ltb l live a))
-        go t (no f) = rest t f
+    idle₁ a j = ap (λ (U : ℕ → List ℕ). node U s (suc l) j) (same₁ (λ z. le-ltb l live a))
 
     -- ---- how many pairs there are then
     grows : node T s (suc l) (suc i) ≡ 0 → (J : ℕ) → suc l ≤ J → J < suc N → J ≤ i → level cap s i J .entries < cap →
         level cap s (suc i) J .entries ≡ level cap s i J .entries + 1
     grows z zero a b t u = absurd (omega arith)
-    grows z (suc j) a b t u = ap (λ (u : Level). u .entries) (becomes-new cap s (suc j) i t (uncounted z j (omega arith) (omega arith)) u)
+    grows z (suc j) a b t u =
+        let none = uncounted (w .held) (bytes i) j (omega arith) (omega arith) (closed-up (w .held .kept) (suc l) (suc i) (suc j) a (omega arith) z) in
+        ap (λ (u : Level). u .entries) (becomes-new cap s (suc j) i t none u)
 
     few-here : Few (suc N) cap s i (suc l) (number (T (suc l)))
     few-here = subst (λ (k : ℕ). Few (suc N) cap s k (suc l) (number (T (suc l)))) (reached-waits i l l (omega arith)) (w .held .roomy l (w .one))
@@ -204,7 +197,7 @@ module _
     few₁ = go (ℕ-discrete (node T s (suc l) (suc i)) 0) (decLt l live)
       where
         still : (node T s (suc l) (suc i) ≡ 0 → may ≡ false) → Few (suc N) cap s (suc i) (suc l) (number (T₁ (suc l)))
-        still f = subst (λ (t : List ℕ). Few (suc N) cap s (suc i) (suc l) (number t)) (sym (same₁ f)) (few-kept few-here)
+        still f = subst (λ (U : ℕ → List ℕ). Few (suc N) cap s (suc i) (suc l) (number (U (suc l)))) (sym (same₁ f)) (few-kept few-here)
 
         new : node T s (suc l) (suc i) ≡ 0 → l < live → Dec (v .entries < cap) → Few (suc N) cap s (suc i) (suc l) (suc (number (T (suc l))))
         new z a (yes h) = few-new few-here h (grows z (suc l) (omega arith) (omega (arith, w .one)) (w .taking) h)

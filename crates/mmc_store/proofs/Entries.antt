@@ -1,6 +1,5 @@
 -- What a level has counted before a place: no more than its cap and the places allow, below the cap every place, and at most one entry more than
--- the next longer level.
--- Assumes nothing.
+-- the next longer level. Assumes nothing.
 use Prim.Native.Nat.{ℕ, zero, suc, _+_, _-_, _≤_, _<_}
 use mathlib.Core.Path.{_≡_, refl, sym, ap, _∙_}
 use mathlib.Core.Bool.{Bool, true, false, cond, _&&_}

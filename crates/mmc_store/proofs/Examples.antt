@@ -45,19 +45,3 @@ shorter-full = (refl, refl, refl)
 longer-counts : (level 2 rising 5 1 .entries ≡ 2) × (level 2 rising 5 2 .entries ≡ 2) × (level 2 rising 5 3 .entries ≡ 2)
 unfolding rising same present count whenFound whenAbsent found level
 longer-counts = (refl, refl, refl)
-
--- at place 3 level 1 has the context 0, but at the cap it does not count the new pair (0, 2); level 2 makes the entry of 2 after 1, 0
-returning : List ℕ
-returning = 0 ∷ 1 ∷ 0 ∷ 2 ∷ []
-
-context-there : found returning (level 2 returning 3) 3 1 ≡ true
-unfolding returning same present count whenFound whenAbsent found level
-context-there = refl
-
-pair-left-out : (level 2 returning 3 1 .entries ≡ 2) × (level 2 returning 4 1 .places ≡ 2 ∷ 1 ∷ [])
-unfolding returning same present count whenFound whenAbsent found level
-pair-left-out = (refl, refl)
-
-longer-has-it : (level 2 returning 3 2 .entries ≡ 1) × (level 2 returning 4 2 .entries ≡ 2)
-unfolding returning same present count whenFound whenAbsent found level
-longer-has-it = (refl, refl)

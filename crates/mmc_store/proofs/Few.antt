@@ -1,5 +1,4 @@
--- How many pairs a level has made, one place after the other: no more than its cap and one for each level that is not shorter.
--- Assumes nothing.
+-- How many pairs a level has made, one place after the other: no more than its cap and one for each level that is not shorter. Assumes nothing.
 use Prim.Native.Nat.{ℕ, suc, _+_, _-_, _≤_, _<_}
 use mathlib.Core.Path.{_≡_}
 use mathlib.Core.List.{List}

@@ -1,6 +1,6 @@
 -- What is kept over all levels: its tables have room, it names the places of the levels below N alone, and empty tables keep no places.
 -- Assumes nothing.
-use Prim.Native.Nat.{ℕ, zero, suc, _≤_, _<_}
+use Prim.Native.Nat.{ℕ, zero, suc, _+_, _-_, _≤_, _<_}
 use mathlib.Core.Path.{_≡_, sym, ap, subst, _∙_}
 use mathlib.Core.List.{List, []}
 use native.Mathlib.Omega.{arith}
@@ -39,6 +39,14 @@ module _ {N : ℕ} {s : List ℕ} {h T : ℕ → List ℕ} (w : Kept N s h T) wh
     stores = λ l a. subst (λ (g : List ℕ). Stores s (suc l) g (node T s l) (T l) (T (suc l))) (sym (f l a)) (w .stores l a);
     closed = w .closed;
   }
+
+  -- every longer word is missing then
+  pub closed-up : (l i j : ℕ) → l ≤ j → j ≤ N → node T s l i ≡ 0 → node T s j i ≡ 0
+  closed-up l i j a b z = let e : l + (j - l) ≡ j = omega arith in rw e at (go (j - l) (omega arith))
+    where
+      go : (d : ℕ) → l + d ≤ N → node T s (l + d) i ≡ 0
+      go zero h = let e : l + 0 ≡ l = omega arith in rw e z
+      go (suc d) h = let e : l + suc d ≡ suc (l + d) = omega arith in rw e (w .closed (l + d) i (omega arith) (go d (omega arith)))
 
 -- ---- nothing was put in
 module _ (N : ℕ) (s : List ℕ) (h T : ℕ → List ℕ) (clear : (j : ℕ) → j ≤ N → (length (T j) ≡ size) × ((a : ℕ) → getD (T j) a 0 ≡ 0))

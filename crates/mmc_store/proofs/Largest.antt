@@ -1,5 +1,4 @@
--- The symbol of the largest count, once one count has grown.
--- Assumes nothing.
+-- The symbol of the largest count, once one count has grown. Assumes nothing.
 use Prim.Native.Nat.{ℕ, zero, suc, _+_, _≤_, _<_}
 use mathlib.Core.Path.{_≡_, refl, sym, ap, _∙_}
 use mathlib.Core.Logic.{_⊎_, ⊎-elim}
@@ -46,41 +45,3 @@ top-one f n a b p q =
 
 pub largest-is : (f : ℕ → ℕ) (n b : ℕ) → Top f (suc n) b → largest f (suc n) ≡ b
 largest-is f n b t = top-one f (suc n) (largest f (suc n)) b (largest-top f n) t
-
--- the same counts have the same largest
-pub top-agree : (f g : ℕ → ℕ) (n b : ℕ) → ((y : ℕ) → y < n → f y ≡ g y) → Top g n b → Top f n b
-top-agree f g n b e w = record {
-  below = w .below;
-  most = λ y l. omega (arith, e y l, e b (w .below), w .most y l);
-  ties = λ y l q. w .ties y l (sym (e y l) ∙ q ∙ e b (w .below));
-}
-
-pub largest-agree : (f g : ℕ → ℕ) (n : ℕ) → ((y : ℕ) → y < suc n → f y ≡ g y) → largest f (suc n) ≡ largest g (suc n)
-largest-agree f g n e = largest-is f n (largest g (suc n)) (top-agree f g (suc n) (largest g (suc n)) e (largest-top g n))
-
--- the count of x has grown by one
-module _ (f g : ℕ → ℕ) (n x : ℕ) (hx : x < suc n) (grown : g x ≡ f x + 1) (kept : (y : ℕ) → y < suc n → (y ≡ x → ⊥) → g y ≡ f y) (b : ℕ) (top : Top f (suc n) b) where
-  pub grown-up : (f b < g x) ⊎ ((g x ≡ f b) × (b < x)) → Top g (suc n) x
-  grown-up c = record { below = hx; most = λ y l. most y l (ℕ-discrete y x); ties = λ y l q. ties y l q (ℕ-discrete y x) }
-    where
-      most : (y : ℕ) → y < suc n → Dec (y ≡ x) → g y ≤ g x
-      most y l (yes e) = omega (arith, ap g e)
-      most y l (no d) = ⊎-elim (λ h. omega (arith, kept y l d, top .most y l)) (λ h. omega (arith, kept y l d, top .most y l)) c
-
-      ties : (y : ℕ) → y < suc n → g y ≡ g x → Dec (y ≡ x) → y ≤ x
-      ties y l q (yes e) = omega arith
-      ties y l q (no d) = ⊎-elim (λ h. absurd (let z : 1 ≤ 0 = omega (arith, kept y l d, top .most y l) in omega arith)) (λ h. omega (arith, top .ties y l (sym (kept y l d) ∙ q ∙ h .0))) c
-
-  pub grown-not : (g x < f b) ⊎ ((g x ≡ f b) × (x ≤ b)) → (g b ≡ f b) × Top g (suc n) b
-  grown-not c = (here, record { below = top .below; most = λ y l. most y l (ℕ-discrete y x); ties = λ y l q. ties y l q (ℕ-discrete y x) })
-    where
-      here : g b ≡ f b
-      here = kept b (top .below) (λ e. ⊎-elim (λ h. omega (arith, ap f e)) (λ h. omega (arith, ap f e)) c)
-
-      most : (y : ℕ) → y < suc n → Dec (y ≡ x) → g y ≤ g b
-      most y l (yes e) = ⊎-elim (λ h. omega (arith, ap g e, here)) (λ h. omega (arith, ap g e, here)) c
-      most y l (no d) = omega (arith, kept y l d, here, top .most y l)
-
-      ties : (y : ℕ) → y < suc n → g y ≡ g b → Dec (y ≡ x) → y ≤ b
-      ties y l q (yes e) = ⊎-elim (λ h. absurd (let z : 1 ≤ 0 = omega (arith, ap g e, here) in omega arith)) (λ h. omega arith) c
-      ties y l q (no d) = top .ties y l (sym (kept y l d) ∙ q ∙ here)

@@ -6,7 +6,6 @@ pub mod Becoming
 pub mod Few
 pub mod Telling
 pub mod Settling
-pub mod Clearing
 pub mod Examples
 pub mod Parts
 pub mod Nodes

@@ -1,6 +1,5 @@
 -- The contexts of a place are looked up one after the other, until one is absent: then so are all longer ones, and their levels are silent.
--- A context is present where its best is not 0, and the last digit of that, by 256, is the symbol that its level says.
--- Assumes nothing.
+-- A context is present where its best is not 0, and the last digit of that, by 256, is the symbol that its level says. Assumes nothing.
 use Prim.Native.Nat.{ℕ, suc, _+_, _%_, _≤_, _<_}
 use mathlib.Core.Path.{_≡_, refl, sym, ap, _∙_}
 use mathlib.Core.Bool.{Bool, true, false, cond}
@@ -44,16 +43,12 @@ answered-absent v e = go (eqb v 0) refl e
     go true q e = eqb-true v 0 q
     go false q e = absurd (let z : _≡_ {A = ℕ} 0 1 = cc in omega arith)
 
-record Told (v x : ℕ) : Type 0 where
-  pub some : 0 < v
-  pub is : x ≡ v % 256
-
-answered-present : (v x : ℕ) → contextOf v ≡ Present x → Told v x
+answered-present : (v x : ℕ) → contextOf v ≡ Present x → (0 < v) × (x ≡ v % 256)
 answered-present v x e = go (eqb v 0) refl e
   where
-    go : (b : Bool) → eqb v 0 ≡ b → cond b Absent (Present (v % 256)) ≡ Present x → Told v x
+    go : (b : Bool) → eqb v 0 ≡ b → cond b Absent (Present (v % 256)) ≡ Present x → (0 < v) × (x ≡ v % 256)
     go true q e = absurd (let z : _≡_ {A = ℕ} 0 1 = cc in omega arith)
-    go false q e = record { some = (let f : v ≡ 0 → ⊥ = eqb-false v 0 q in omega arith); is = cc }
+    go false q e = ((let f : v ≡ 0 → ⊥ = eqb-false v 0 q in omega arith), (cc))
 
 -- ---- the contexts of up to l symbols are present, and their levels have spoken
 pub record Looking (n cap : ℕ) (s : List ℕ) (i top l : ℕ) (guesses : List ℕ) : Type 0 where
@@ -125,11 +120,11 @@ module _ {n cap : ℕ} {s : List ℕ} {i top l : ℕ} {guesses : List ℕ} (g : 
 
     module _ (x : ℕ) (e : contextOf v ≡ Present x) where
       found-here : found s (level cap s i) i (suc l) ≡ true
-      found-here = found-next ∙ lt-ltb 0 v (answered-present v x e .some)
+      found-here = found-next ∙ lt-ltb 0 v (answered-present v x e .0)
 
       said-here : x ≡ spoken (guess cap s i l)
       said-here =
-          answered-present v x e .is ∙ ap (λ u. u % 256) value-is
+          answered-present v x e .1 ∙ ap (λ u. u % 256) value-is
           ∙ best-predicted s (suc l) (level cap s i (suc l) .places) i (present-of cap s i l found-here) ∙ sym (said-found cap s i l found-here)
 
       pub looking-next : Looking n cap s i top (l + 1) (set guesses l x)

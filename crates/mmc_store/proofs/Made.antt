@@ -119,15 +119,15 @@ module _ {N : ℕ} {s : List ℕ} {h T : ℕ → List ℕ} (w : Kept N s h T) (b
   -- ---- it is made if it may be and is not there
   module _ (may : Bool) (small : may ≡ true → 1 ≤ node T s l (suc i)) (T′ : ℕ → List ℕ)
       (here : T′ (suc l) ≡ grown (T (suc l)) (keyOf (node T s l i) (getD s i 0)) may) (others : (j : ℕ) → (j ≡ suc l → ⊥) → T′ j ≡ T j) where
-    pub grow-same : (node T s (suc l) (suc i) ≡ 0 → may ≡ false) → T′ (suc l) ≡ T (suc l)
+    grow-same : (node T s (suc l) (suc i) ≡ 0 → may ≡ false) → T′ (suc l) ≡ T (suc l)
     grow-same f = here ∙ go (ℕ-discrete (entryOf (T (suc l)) k) 0)
       where
         go : Dec (entryOf (T (suc l)) k ≡ 0) → grown (T (suc l)) k may ≡ T (suc l)
         go (yes z) = grown-not (T (suc l)) k may (f (node-next T s l i ∙ z))
         go (no g) = grown-there (T (suc l)) k may g
 
-    all-same : (node T s (suc l) (suc i) ≡ 0 → may ≡ false) → T′ ≡ T
-    all-same f = fun-ext (λ j. go j (ℕ-discrete j (suc l)))
+    pub grow-none : (node T s (suc l) (suc i) ≡ 0 → may ≡ false) → T′ ≡ T
+    grow-none f = fun-ext (λ j. go j (ℕ-discrete j (suc l)))
       where
         go : (j : ℕ) → Dec (j ≡ suc l) → T′ j ≡ T j
         go j (yes e) = subst (λ (j : ℕ). T′ j ≡ T j) (sym e) (grow-same f)
@@ -144,16 +144,16 @@ module _ {N : ℕ} {s : List ℕ} {h T : ℕ → List ℕ} (w : Kept N s h T) (b
         go false b d = stays (λ z. b)
 
     pub grow-kept : Kept N s h T′
-    grow-kept = grow-cases (λ b z e. way-kept (small b) z T′ e others) (λ f. subst (Kept N s h) (sym (all-same f)) w)
+    grow-kept = grow-cases (λ b z e. way-kept (small b) z T′ e others) (λ f. subst (Kept N s h) (sym (grow-none f)) w)
 
     pub grow-other : (d j : ℕ) → d ≤ N → (d ≡ suc l → ⊥) → node T′ s d j ≡ node T s d j
-    grow-other d j a g = grow-cases (λ b z e. way-other (small b) z T′ e others d j a g) (λ f. ap (λ (T : ℕ → List ℕ). node T s d j) (all-same f))
+    grow-other d j a g = grow-cases (λ b z e. way-other (small b) z T′ e others d j a g) (λ f. ap (λ (T : ℕ → List ℕ). node T s d j) (grow-none f))
 
     -- a word that was there keeps its number
     pub grow-waits : (j : ℕ) → (node T s (suc l) j ≡ 0 → ⊥) → node T′ s (suc l) j ≡ node T s (suc l) j
     grow-waits j g =
         grow-cases (λ b z e. way-here (small b) z T′ e others j ∙ go z (same s (suc (suc l)) (suc i) j) refl)
-        (λ f. ap (λ (T : ℕ → List ℕ). node T s (suc l) j) (all-same f))
+        (λ f. ap (λ (T : ℕ → List ℕ). node T s (suc l) j) (grow-none f))
       where
         go : node T s (suc l) (suc i) ≡ 0 → (b : Bool) → same s (suc (suc l)) (suc i) j ≡ b →
             cond b (suc (number (T (suc l)))) (node T s (suc l) j) ≡ node T s (suc l) j

@@ -1,5 +1,4 @@
--- Places with the same context: each with itself, and two of them with the same others. The newest symbol may be compared first.
--- Assumes nothing.
+-- Places with the same context: each with itself, and two of them with the same others. The newest symbol may be compared first. Assumes nothing.
 use Prim.Native.Nat.{ℕ, zero, suc, _-_, _≤_}
 use mathlib.Core.Path.{_≡_, refl, ap, _∙_}
 use mathlib.Core.Bool.{Bool, true, false, _&&_}
@@ -8,7 +7,7 @@ use native.Mathlib.Nat.{not-suc-le-zero}
 use native.Mathlib.Omega.{arith}
 use lib.ListN.{getD}
 use lib.Dec.{eqb}
-use borrow.Author.Tests.{eqb-true, eq-eqb}
+use borrow.Author.Tests.{eq-eqb}
 use Rattle.mmc_store.specs.Counts.{same}
 
 pub and-left : (a b : Bool) → (a && b) ≡ true → a ≡ true
@@ -29,15 +28,6 @@ module _ (s : List ℕ) where
   unfolding same
   same-refl zero a = refl
   same-refl (suc n) a = rw (eq-eqb (getD s (a - suc n) 0) (getD s (a - suc n) 0) refl) (same-refl n a)
-
-  -- what is the same as a is the same as b
-  pub same-right : (L a b c : ℕ) → same s L a b ≡ true → same s L c a ≡ same s L c b
-  unfolding same
-  same-right zero a b c e = refl
-  same-right (suc n) a b c e =
-      let t : Bool = eqb (getD s (a - suc n) 0) (getD s (b - suc n) 0) in
-      let h : getD s (a - suc n) 0 ≡ getD s (b - suc n) 0 = eqb-true _ _ (and-left t (same s n a b) e) in
-      rw (h, same-right n a b c (and-right t (same s n a b) e))
 
   -- the newest symbol, and the contexts before it
   pub same-newest : (L a b : ℕ) → same s (suc L) a b ≡ (eqb (getD s (a - 1) 0) (getD s (b - 1) 0) && same s L (a - 1) (b - 1))

@@ -1,6 +1,5 @@
 -- What a level says of a place, as the race holds it and hears it: its predicted symbol where it and every shorter level have the context, and
--- silence where one has not.
--- Assumes nothing.
+-- silence where one has not. Assumes nothing.
 use Prim.Native.Nat.{ℕ, suc, _≤_}
 use mathlib.Core.Path.{_≡_, refl}
 use mathlib.Core.Bool.{Bool, true, false, cond, _&&_}
@@ -38,14 +37,6 @@ module _ (cap : ℕ) (s : List ℕ) (i l : ℕ) where
   -- a symbol is below silence
   symbol : ltb x silence ≡ true
   symbol = lt-ltb x silence (predicted-lt s (suc l) (level cap s i (suc l) .places) i)
-
-  pub speaks : ltb (spoken (guess cap s i l)) silence ≡ f
-  unfolding guess
-  speaks = go f
-    where
-      go : (b : Bool) → ltb (spoken (cond b (says x) silent)) silence ≡ b
-      go true = symbol
-      go false = refl
 
   -- the race hears what a level says
   pub heard-guess : heard (spoken (guess cap s i l)) ≡ guess cap s i l

@@ -10,17 +10,17 @@ use native.Mathlib.Decide.{ℕ-discrete, decLt}
 use lib.ListN.{length, getD, set, length-set}
 use lib.Seq.{getD-set-same, getD-set-other}
 use lib.Dec.{ltb}
-use Rattle.table.specs.Table.{number, value, entryOf}
-use Rattle.mmc_store.specs.Counts.{count}
+use Rattle.table.specs.Table.{number}
 use Rattle.mmc_store.specs.Levels.{Level, level}
-use Rattle.mmc_store.specs.Words.{counts, keyOf, node}
+use Rattle.mmc_store.specs.Words.{node}
 use Rattle.mmc_store.specs.Ways.{Few}
 use Rattle.mmc_store.specs.Places.{tables, reached, Held, Spots, Ready, Through, Capped, Stands, Setting}
 use Rattle.mmc_store.proofs.Entries.{level-early, entries-grow}
 use Rattle.mmc_store.proofs.Becoming.{becomes-same}
 use Rattle.mmc_store.proofs.Few.{few-kept}
 use Rattle.mmc_store.proofs.Nodes.{node-next, no-key}
-use Rattle.mmc_store.proofs.Kept.{kept-table, kept-places}
+use Rattle.mmc_store.proofs.Kept.{kept-places, closed-up}
+use Rattle.mmc_store.proofs.Counting.{uncounted}
 use Rattle.mmc_store.proofs.Reached.{reached-waits, reached-done}
 
 -- l levels are through with place i, and `carry` is the number of the context of level l + 1 at the next place
@@ -73,6 +73,21 @@ module _ {N cap : ℕ} {s : List ℕ} {i top depth live l carry : ℕ} {E nodes 
   put-there : (j : ℕ) → (j ≡ l → ⊥) → getD (set nodes l carry) j 0 ≡ getD nodes j 0
   put-there j f = getD-set-other nodes l j carry 0 f
 
+  -- the numbers of the next place's contexts, once that of level l + 1 is put down
+  put-done : (j : ℕ) → j ≤ l → getD (set nodes l carry) j 0 ≡ node T s j (suc i)
+  put-done j a = go (ℕ-discrete j l)
+    where
+      go : Dec (j ≡ l) → getD (set nodes l carry) j 0 ≡ node T s j (suc i)
+      go (yes e) = subst (λ (j : ℕ). getD (set nodes l carry) j 0 ≡ node T s j (suc i)) (sym e) (put-here ∙ w .is)
+      go (no f) = put-there j f ∙ w .done j (omega arith)
+
+  put-gone : (j : ℕ) → j ≤ l → node T s j (suc i) ≡ 0 → live < j
+  put-gone j a z = go (ℕ-discrete j l)
+    where
+      go : Dec (j ≡ l) → live < j
+      go (yes e) = subst (λ (j : ℕ). live < j) (sym e) (carry-gone (subst (λ (j : ℕ). node T s j (suc i) ≡ 0) e z))
+      go (no f) = w .done-gone j (omega arith) z
+
   -- ---- the next level
   module _ (more : l < top) where
     level-one : l < N
@@ -117,20 +132,12 @@ module _ {N cap : ℕ} {s : List ℕ} {i top depth live l carry : ℕ} {E nodes 
         is = th .is;
         some = λ a. th .some a;
         full = length-set nodes l carry ∙ w .full;
-        done = λ j a. at j (omega arith) (ℕ-discrete j l) ∙ sym (past j (omega arith));
-        done-gone = λ j a z. gone j (omega arith) (ℕ-discrete j l) (sym (past j (omega arith)) ∙ z);
+        done = λ j a. put-done j (omega arith) ∙ sym (past j (omega arith));
+        done-gone = λ j a z. put-gone j (omega arith) (sym (past j (omega arith)) ∙ z);
         wait = λ j a b c. put-there j (λ e. omega arith) ∙ w .wait j (omega arith) b c ∙ sym (kept j a b c);
         wait-gone = λ j a b c z. w .wait-gone j (omega arith) b c (sym (kept j a b c) ∙ z);
         beyond = λ j a. put-there j (λ e. omega (arith, taking)) ∙ w .beyond j a;
       })
-        where
-          at : (j : ℕ) → j ≤ l → Dec (j ≡ l) → getD (set nodes l carry) j 0 ≡ node T s j (suc i)
-          at j a (yes e) = subst (λ (j : ℕ). getD (set nodes l carry) j 0 ≡ node T s j (suc i)) (sym e) (put-here ∙ w .is)
-          at j a (no f) = put-there j f ∙ w .done j (omega arith)
-
-          gone : (j : ℕ) → j ≤ l → Dec (j ≡ l) → node T s j (suc i) ≡ 0 → live < j
-          gone j a (yes e) z = subst (λ (j : ℕ). live < j) (sym e) (carry-gone (subst (λ (j : ℕ). node T s j (suc i) ≡ 0) e z))
-          gone j a (no f) z = w .done-gone j (omega arith) z
 
   -- ---- no level from l on changes, and each has the number of its context at the next place
   module _ (idle : (j : ℕ) → l ≤ j → j < N → level cap s (suc i) (suc j) ≡ level cap s i (suc j))
@@ -174,20 +181,18 @@ module _ {N cap : ℕ} {s : List ℕ} {i top depth live l carry : ℕ} {E nodes 
     spots-next : Spots N T s (suc i) live (set nodes l carry)
     spots-next = record {
       full = length-set nodes l carry ∙ w .full;
-      each = λ j a b. each j a b (ℕ-discrete j l) (decLt j l);
-      gone = λ j a b. gone j a b (ℕ-discrete j l) (decLt j l);
+      each = λ j a b. each j a b (decLt l j);
+      gone = λ j a b. gone j a b (decLt l j);
       beyond = λ j a. put-there j (λ e. omega (arith, w .reach, w .setting .taking)) ∙ w .beyond j (omega arith);
     }
       where
-        each : (j : ℕ) → j < suc i → j < N → Dec (j ≡ l) → Dec (j < l) → getD (set nodes l carry) j 0 ≡ node T s j (suc i)
-        each j a b (yes e) d = subst (λ (j : ℕ). getD (set nodes l carry) j 0 ≡ node T s j (suc i)) (sym e) (put-here ∙ w .is)
-        each j a b (no f) (yes h) = put-there j f ∙ w .done j h
-        each j a b (no f) (no g) = put-there j f ∙ rest j (omega arith) a b .0
+        each : (j : ℕ) → j < suc i → j < N → Dec (l < j) → getD (set nodes l carry) j 0 ≡ node T s j (suc i)
+        each j a b (yes h) = put-there j (λ e. omega arith) ∙ rest j h a b .0
+        each j a b (no g) = put-done j (omega arith)
 
-        gone : (j : ℕ) → j < suc i → j < N → Dec (j ≡ l) → Dec (j < l) → node T s j (suc i) ≡ 0 → live < j
-        gone j a b (yes e) d z = subst (λ (j : ℕ). live < j) (sym e) (carry-gone (subst (λ (j : ℕ). node T s j (suc i) ≡ 0) e z))
-        gone j a b (no f) (yes h) z = w .done-gone j h z
-        gone j a b (no f) (no g) z = rest j (omega arith) a b .1
+        gone : (j : ℕ) → j < suc i → j < N → Dec (l < j) → node T s j (suc i) ≡ 0 → live < j
+        gone j a b (yes h) z = rest j h a b .1
+        gone j a b (no g) z = put-gone j (omega arith) z
 
     stands-next : Stands N cap s (i + 1) live E (set nodes l carry) m
     stands-next = rw (add-one i) (record { held = held-next; still = still-next; spots = spots-next })
@@ -205,42 +210,32 @@ module _ {N cap : ℕ} {s : List ℕ} {i top depth live l carry : ℕ} {E nodes 
 
   -- ---- the context of level l + 1 is missing
   module _ (more : l < top) (none : getD nodes l 0 ≡ 0) where
-    missing : (d : ℕ) → l + d ≤ N → node T s (l + d) i ≡ 0
-    missing zero a =
-        let e : l + 0 ≡ l = omega arith in
-        rw e (sym (w .wait l (omega arith) (omega (arith, w .setting .taking)) (omega (arith, w .setting .most))) ∙ none)
-    missing (suc d) a =
-        let e : l + suc d ≡ suc (l + d) = omega arith in rw e (w .held .kept .closed (l + d) i (omega arith) (missing d (omega arith)))
+    missing : (j : ℕ) → l ≤ j → j ≤ N → node T s j i ≡ 0
+    missing j a b =
+        let here : node T s l i ≡ 0 = sym (w .wait l (omega arith) (omega (arith, w .setting .taking)) (omega (arith, w .setting .most))) ∙ none in
+        closed-up (w .held .kept) l i j a b here
 
-    missing-at : (j : ℕ) → l ≤ j → j ≤ N → node T s j i ≡ 0
-    missing-at j a b = let e : l + (j - l) ≡ j = omega arith in rw e at (missing (j - l) (omega arith))
-
-    no-pair : (j : ℕ) → l ≤ j → j < N → entryOf (T (suc j)) (keyOf (node T s j i) (getD s i 0)) ≡ 0
+    no-pair : (j : ℕ) → l ≤ j → j < N → node T s (suc j) (suc i) ≡ 0
     no-pair j a b =
-        no-key (w .held .kept .trie j b) (node T s j i) (getD s i 0) (w .setting .place .bytes i) (λ h. omega (arith, missing-at j a (omega arith)))
+        node-next T s j i
+        ∙ no-key (w .held .kept .trie j b) (node T s j i) (getD s i 0) (w .setting .place .bytes i) (λ h. omega (arith, missing j a (omega arith)))
 
     late : live < l
-    late = w .wait-gone l (omega arith) (omega (arith, w .setting .taking)) (omega (arith, w .setting .most)) (missing-at l (omega arith) (omega (arith, w .setting .most)))
-
-    uncounted : (j : ℕ) → l ≤ j → j < N → count s (suc j) (level cap s i (suc j) .places) i (getD s i 0) ≡ 0
-    uncounted j a b =
-        ap (λ (k : ℕ). count s (suc j) (level cap s k (suc j) .places) i (getD s i 0)) (sym (reached-waits i l j a))
-        ∙ w .held .kept .stores j b .counts-are i (getD s i 0) (w .setting .place .bytes i)
-        ∙ ap (value (T (suc j)) counts) (no-pair j a b) ∙ kept-table (w .held .kept) (suc j) b .none counts (omega arith)
+    late = w .wait-gone l (omega arith) (omega (arith, w .setting .taking)) (omega (arith, w .setting .most)) (missing l (omega arith) (omega (arith, w .setting .most)))
 
     idle : (j : ℕ) → l ≤ j → j < N → level cap s (suc i) (suc j) ≡ level cap s i (suc j)
     idle j a b = go (decLt j i)
       where
         go : Dec (j < i) → level cap s (suc i) (suc j) ≡ level cap s i (suc j)
-        go (yes h) = becomes-same cap s (suc j) i h (uncounted j a b) (w .setting .live-is .capped j (omega (arith, late)) b)
+        go (yes h) = becomes-same cap s (suc j) i h (uncounted (w .held) (w .setting .place .bytes i) j a b (no-pair j a b)) (w .setting .live-is .capped j (omega (arith, late)) b)
         go (no g) = early j (omega arith)
 
     rest : (j : ℕ) → l < j → j < suc i → j < N → (getD nodes j 0 ≡ node T s j (suc i)) × (live < j)
     rest zero a b c = absurd (omega arith)
-    rest (suc j) a b c = (go (decLt (suc j) i) ∙ sym (node-next T s j i ∙ no-pair j (omega arith) (omega arith)), omega (arith, late))
+    rest (suc j) a b c = (go (decLt (suc j) i) ∙ sym (no-pair j (omega arith) (omega arith)), omega (arith, late))
       where
         go : Dec (suc j < i) → getD nodes (suc j) 0 ≡ 0
-        go (yes h) = w .wait (suc j) (omega arith) h c ∙ missing-at (suc j) (omega arith) (omega arith)
+        go (yes h) = w .wait (suc j) (omega arith) h c ∙ missing (suc j) (omega arith) (omega arith)
         go (no g) = w .beyond (suc j) (omega arith)
 
     pub turns-left : Stands N cap s (i + 1) live E (set nodes l carry) m

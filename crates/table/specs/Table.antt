@@ -1,6 +1,5 @@
 -- A table of numbered entries in a slice of numbers, found by their keys. Entries have the numbers 1, 2, .. in the order in which they were
--- made, and 0 is none. Each has a key, a link and two values; it stands in the chain of its key's residue.
--- Assumes nothing.
+-- made, and 0 is none. Each has a key, a link and two values; it stands in the chain of its key's residue. Assumes nothing.
 use Prim.Native.Nat.{ℕ, zero, suc, _+_, _*_, _%_, _≤_, _<_}
 use mathlib.Core.Path.{_≡_}
 use mathlib.Core.Bool.{Bool, cond, _&&_}

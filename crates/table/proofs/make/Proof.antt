@@ -5,20 +5,8 @@ use borrow.Author.Needs.{needs}
 use Rattle.table.proofs.make.Statement.{statement}
 use Rattle.table.proofs.make.Tie as tie
 
-find-requires : tie.Need-find-requires
-find-requires c κs = search needs
-
-same-length : tie.Need-same-length
-same-length c = search needs
-
 returns : tie.Need-returns
 returns c = makes-there _ _ _ _ (c .before .find .ensures) (c .if1 .taken)
-
-add-requires : tie.Need-add-requires
-add-requires c κs = search needs
-
-same-length-2 : tie.Need-same-length-2
-same-length-2 c = search needs
 
 returns-2 : tie.Need-returns-2
 returns-2 c =
@@ -27,21 +15,10 @@ returns-2 c =
     let add = c .before .before .add in
     makes-new (start .pre .0) _ _ (start .pre .1) (c .before .before .before .before .if2 .taken) _ (found .ensures) (c .before .before .before .before .before .if1 .left) _ _ (add .ensures .0) (add .ensures .1)
 
-same-length-3 : tie.Need-same-length-3
-same-length-3 c = search needs
-
 returns-3 : tie.Need-returns-3
 returns-3 c = makes-not _ _ _ _ (c .before .before .find .ensures) (c .before .if1 .left) (c .if2 .left)
 
 pub make-spec : {M : Type 1} → statement M
 make-spec =
     tie.close
-    (tie.spec
-    find-requires
-    same-length
-    returns
-    add-requires
-    same-length-2
-    returns-2
-    same-length-3
-    returns-3)
+    (tie.spec (λ c κs. search needs) (λ c. search needs) returns (λ c κs. search needs) (λ c. search needs) returns-2 (λ c. search needs) returns-3)

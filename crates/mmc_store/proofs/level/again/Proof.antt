@@ -7,8 +7,7 @@ use Rattle.mmc_store.proofs.level.again.Tie as tie
 returns : tie.Need-returns
 returns c = rw (c .if1 .taken)
 
-returns-2 : tie.Need-returns-2
-returns-2 c = search needs
-
 pub again-spec : {M : Type 1} → statement M
-again-spec = tie.close (tie.spec returns returns-2)
+again-spec =
+    tie.close
+    (tie.spec returns (λ c. search needs))

@@ -163,29 +163,6 @@ returns-4 c =
 pub count-level-spec : {M : Type 1} → statement M
 count-level-spec =
     tie.close
-    (tie.spec
-    shared-slice-read-x
-    cast-x
-    add-make-in
-    mul-make-in
-    add-make-in-2
-    make-in-requires
-    same-length
-    returns
-    add-value-in
-    value-in-requires
-    again-requires
-    tally-requires
-    same-length-2
-    returns-2
-    mul-if3
-    element-copy-out-if3
-    same-length-3
-    returns-3
-    tally-requires-2
-    mul-entries
-    element-copy-out-entries
-    add-entries
-    element-write-entries
-    same-length-4
-    returns-4)
+    (tie.spec shared-slice-read-x cast-x add-make-in mul-make-in add-make-in-2 make-in-requires same-length returns add-value-in value-in-requires
+    again-requires tally-requires same-length-2 returns-2 mul-if3 element-copy-out-if3 same-length-3 returns-3 tally-requires-2 mul-entries
+    element-copy-out-entries add-entries element-write-entries same-length-4 returns-4)

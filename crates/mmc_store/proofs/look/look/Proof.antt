@@ -17,12 +17,6 @@ abbrev μ-loop : tie.MeasureT-loop
 loop-holds : tie.Need-loop-holds Inv-loop μ-loop
 loop-holds c = looking-start (c .before .before .pre .0) (c .before .before .args .top)
 
-mul-lookup : tie.Need-mul-lookup Inv-loop μ-loop
-mul-lookup c = omega arith
-
-element-copy-out-lookup : tie.Need-element-copy-out-lookup Inv-loop μ-loop
-element-copy-out-lookup c = omega arith
-
 lookup-requires : tie.Need-lookup-requires Inv-loop μ-loop
 lookup-requires c κs =
     let here = c .before .before .loop in
@@ -36,15 +30,6 @@ lookup-requires c κs =
 enum-known-known : tie.Need-enum-known-known Inv-loop μ-loop
 enum-known-known c = c .match .keys1
 
-cast-guesses : tie.Need-cast-guesses Inv-loop μ-loop
-cast-guesses c = omega arith
-
-mul-guesses : tie.Need-mul-guesses Inv-loop μ-loop
-mul-guesses c = omega arith
-
-element-write-guesses : tie.Need-element-write-guesses Inv-loop μ-loop
-element-write-guesses c = omega arith
-
 enum-told : tie.Need-enum-told Inv-loop μ-loop
 enum-told c = c .match .keys2
 
@@ -55,12 +40,6 @@ returns c =
     let here = c .before .before .before .before .before .loop in
     let start = c .before .before .before .before .before .before .before .before in
     looked-absent (here .inv) (start .pre .1) (start .pre .0) more (sym (answer .ensures) ∙ c .enum-told .given .1)
-
-add-l : tie.Need-add-l Inv-loop μ-loop
-add-l c = omega arith
-
-loop-less : tie.Need-loop-less Inv-loop μ-loop
-loop-less c = omega arith
 
 loop-again : tie.Need-loop-again Inv-loop μ-loop
 loop-again c =
@@ -79,20 +58,5 @@ returns-2 c =
 pub look-spec : {M : Type 1} → statement M
 look-spec =
     tie.close
-    (tie.spec
-    Inv-loop
-    μ-loop
-    loop-holds
-    mul-lookup
-    element-copy-out-lookup
-    lookup-requires
-    enum-known-known
-    cast-guesses
-    mul-guesses
-    element-write-guesses
-    enum-told
-    returns
-    add-l
-    loop-less
-    loop-again
-    returns-2)
+    (tie.spec Inv-loop μ-loop loop-holds (λ c. omega arith) (λ c. omega arith) lookup-requires enum-known-known (λ c. omega arith) (λ c. omega arith)
+    (λ c. omega arith) enum-told returns (λ c. omega arith) (λ c. omega arith) loop-again returns-2)

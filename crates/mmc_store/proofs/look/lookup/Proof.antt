@@ -7,17 +7,13 @@ use Rattle.mmc_store.proofs.Looking.{answers-absent, answers-present}
 use Rattle.mmc_store.proofs.look.lookup.Statement.{statement}
 use Rattle.mmc_store.proofs.look.lookup.Tie as tie
 
-value-in-requires : tie.Need-value-in-requires
-value-in-requires c κs = search needs
-
 returns : tie.Need-returns
 returns c = answers-absent (c .before .value-in .result) (c .if1 .taken) ∙ ap contextOf (c .before .value-in .ensures .0)
-
-cast-x : tie.Need-cast-x
-cast-x c = search needs
 
 returns-2 : tie.Need-returns-2
 returns-2 c = answers-present (c .before .value-in .result) (c .if1 .left) ∙ ap contextOf (c .before .value-in .ensures .0)
 
 pub lookup-spec : {M : Type 1} → statement M
-lookup-spec = tie.close (tie.spec value-in-requires returns cast-x returns-2)
+lookup-spec =
+    tie.close
+    (tie.spec (λ c κs. search needs) returns (λ c. search needs) returns-2)

@@ -5,12 +5,6 @@ use borrow.Author.Needs.{needs}
 use Rattle.mmc_store.proofs.place.at_place.Statement.{statement}
 use Rattle.mmc_store.proofs.place.at_place.Tie as tie
 
-settle-requires : tie.Need-settle-requires
-settle-requires c κs = search needs
-
-least-requires : tie.Need-least-requires
-least-requires c κs = search needs
-
 look-requires : tie.Need-look-requires
 look-requires c κs =
     let least = c .before .before .before .least in
@@ -27,19 +21,7 @@ count-place-requires c κs =
       setting (start .pre .0) (start .pre .1 .1) (settled .ensures) (least .ensures) (looked .ensures),
     )
 
-same-length : tie.Need-same-length
-same-length c = search needs
-
-returns : tie.Need-returns
-returns c = search needs
-
 pub at-place-spec : {M : Type 1} → statement M
 at-place-spec =
     tie.close
-    (tie.spec
-    settle-requires
-    least-requires
-    look-requires
-    count-place-requires
-    same-length
-    returns)
+    (tie.spec (λ c κs. search needs) (λ c κs. search needs) look-requires count-place-requires (λ c. search needs) (λ c. search needs))

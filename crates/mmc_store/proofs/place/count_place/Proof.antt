@@ -55,12 +55,6 @@ count-level-requires c κs =
     let here = c .before .before .before .before .before .loop in
     ready (here .inv) (c .before .before .before .before .loop-test .taken) _ refl (c .before .before .if1 .left)
 
-add-l : tie.Need-add-l Inv-loop μ-loop
-add-l c = omega arith
-
-loop-less : tie.Need-loop-less Inv-loop μ-loop
-loop-less c = omega arith
-
 loop-again : tie.Need-loop-again Inv-loop μ-loop
 loop-again c =
     let here = c .before .before .before .before .before .before .before .before .loop in
@@ -83,24 +77,6 @@ returns-2 c = turns-over (c .before .loop .inv) (c .loop-test .left)
 pub count-place-spec : {M : Type 1} → statement M
 count-place-spec =
     tie.close
-    (tie.spec
-    Inv-loop
-    μ-loop
-    shared-slice-read-carry
-    cast-carry
-    add-carry
-    loop-holds
-    mul-c
-    element-copy-out-c
-    mul-nodes
-    element-write-nodes
-    same-length
-    returns
-    count-level-requires
-    add-l
-    loop-less
-    loop-again
-    mul-nodes-2
-    element-write-nodes-2
-    same-length-2
+    (tie.spec Inv-loop μ-loop shared-slice-read-carry cast-carry add-carry loop-holds mul-c element-copy-out-c mul-nodes element-write-nodes
+    same-length returns count-level-requires (λ c. omega arith) (λ c. omega arith) loop-again mul-nodes-2 element-write-nodes-2 same-length-2
     returns-2)

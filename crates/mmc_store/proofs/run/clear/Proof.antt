@@ -1,15 +1,18 @@
 -- `clear` meets its contract: after i turns the first i numbers are 0 and the others as they were. At the end i is the length, so all are 0.
 -- Assumes nothing.
-use Prim.Native.Nat.{_-_, _≤_}
+use Prim.Native.Nat.{ℕ, _-_, _≤_}
 use mathlib.Core.Path.{_≡_, refl, ap, _∙_}
-use mathlib.Core.List.{_++_}
+use mathlib.Core.List.{List, _++_, append-nil}
 use native.Mathlib.Omega.{arith}
 use lib.ListN.{length, replicate, drop, set, length-set}
+use lib.Seq.{drop-length}
 use borrow.Author.Fill.{fill-more}
 use borrow.Author.Needs.{scaled-fits}
-use Rattle.mmc_store.proofs.Clearing.{filled}
 use Rattle.mmc_store.proofs.run.clear.Statement.{statement}
 use Rattle.mmc_store.proofs.run.clear.Tie as tie
+
+filled : (d m : List ℕ) (i : ℕ) → i ≡ length d → m ≡ replicate i 0 ++ drop i d → m ≡ replicate (length d) 0
+filled d m i e q = q ∙ rw (e, drop-length d) (append-nil (replicate (length d) 0))
 
 abbrev Inv-loop : tie.InvT-loop
 Inv-loop space₀ i₀ space i = (space ≡ replicate i 0 ++ drop i space₀) × (length space ≡ length space₀) × (i ≤ length space₀)
@@ -25,15 +28,6 @@ mul-space c =
     let here = c .before .loop in
     let start = c .before .before in
     scaled-fits (here .i) (length (start .args .space .now)) 4 (omega arith) (start .good .0 .1)
-
-slice-write-space : tie.Need-slice-write-space Inv-loop μ-loop
-slice-write-space c = omega arith
-
-add-i : tie.Need-add-i Inv-loop μ-loop
-add-i c = omega arith
-
-loop-less : tie.Need-loop-less Inv-loop μ-loop
-loop-less c = omega arith
 
 loop-again : tie.Need-loop-again Inv-loop μ-loop
 loop-again c =
@@ -56,14 +50,4 @@ returns c =
 pub clear-spec : {M : Type 1} → statement M
 clear-spec =
     tie.close
-    (tie.spec
-    Inv-loop
-    μ-loop
-    loop-holds
-    mul-space
-    slice-write-space
-    add-i
-    loop-less
-    loop-again
-    same-length
-    returns)
+    (tie.spec Inv-loop μ-loop loop-holds mul-space (λ c. omega arith) (λ c. omega arith) (λ c. omega arith) loop-again same-length returns)

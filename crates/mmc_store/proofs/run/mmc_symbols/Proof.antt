@@ -16,12 +16,6 @@ lends : (c : tie.Start) → Lent levels store 16777216 (now (c .args .space))
 unfolding size
 lends c = record { among = omega arith; all = refl; fits = c .pre .1 }
 
-sub-run : tie.Need-sub-run
-sub-run c = search needs
-
-part-run-start : tie.Need-part-run-start
-part-run-start c = search needs
-
 part-run-end : tie.Need-part-run-end
 part-run-end c = lent-fits (lends (c .before .before))
 
@@ -30,22 +24,10 @@ run-requires c κs =
     let start = c .before .before .before in
     (limit-fits (length (now (start .args .s))) (start .pre .0), lent-long (lends start))
 
-sub-clear : tie.Need-sub-clear
-sub-clear c = search needs
-
-part-clear-start : tie.Need-part-clear-start
-part-clear-start c = search needs
-
 part-clear-end : tie.Need-part-clear-end
 part-clear-end c =
     let past = c .before .before in
     clear-fits (lends (past .before .before .before .before)) (past .run .last .1 .0) (past .run .kept .1 .0)
-
-clear-requires : tie.Need-clear-requires
-clear-requires c κs = search needs
-
-same-length : tie.Need-same-length
-same-length c = search needs
 
 returns : tie.Need-returns
 returns c =
@@ -56,14 +38,5 @@ returns c =
 pub mmc-symbols-spec : {M : Type 1} → statement M
 mmc-symbols-spec =
     tie.close
-    (tie.spec
-    sub-run
-    part-run-start
-    part-run-end
-    run-requires
-    sub-clear
-    part-clear-start
-    part-clear-end
-    clear-requires
-    same-length
-    returns)
+    (tie.spec (λ c. search needs) (λ c. search needs) part-run-end run-requires (λ c. search needs) (λ c. search needs) part-clear-end
+    (λ c κs. search needs) (λ c. search needs) returns)

@@ -24,9 +24,6 @@ past c = c .before .before .before
 abbrev here : tie.After-shared-slice-known2 Inv-loop μ-loop → tie.In-loop Inv-loop μ-loop
 here c = past c .before .before .before .before .before
 
-clear-requires : tie.Need-clear-requires Inv-loop μ-loop
-clear-requires c κs = tt
-
 loop-holds : tie.Need-loop-holds Inv-loop μ-loop
 loop-holds c =
     let clear = c .before .before .clear in
@@ -94,22 +91,5 @@ returns c = run-tally (c .before .loop .inv) (c .loop-test .left)
 pub run-spec : {M : Type 1} → statement M
 run-spec =
     tie.close
-    (tie.spec
-    Inv-loop
-    μ-loop
-    clear-requires
-    loop-holds
-    at-place-requires
-    shared-slice-read-x
-    cast-x
-    mul-count
-    array-read-count
-    count-requires
-    slice-aggregate-score
-    slice-aggregate-score-2
-    score-requires
-    add-place
-    loop-less
-    loop-again
-    same-length
-    returns)
+    (tie.spec Inv-loop μ-loop (λ c κs. tt) loop-holds at-place-requires shared-slice-read-x cast-x mul-count array-read-count count-requires
+    slice-aggregate-score slice-aggregate-score-2 score-requires add-place loop-less loop-again same-length returns)

@@ -7,31 +7,10 @@ use borrow.Author.Needs.{needs}
 use Rattle.mmc_store.proofs.tables.make_in.Statement.{statement}
 use Rattle.mmc_store.proofs.tables.make_in.Tie as tie
 
-mul-a : tie.Need-mul-a
-mul-a c = search needs
-
-add-b : tie.Need-add-b
-add-b c = search needs
-
-mul-make : tie.Need-mul-make
-mul-make c = search needs
-
-sub-make : tie.Need-sub-make
-sub-make c = search needs
-
-part-make-start : tie.Need-part-make-start
-part-make-start c = search needs
-
-part-make-end : tie.Need-part-make-end
-part-make-end c = search needs
-
 make-requires : tie.Need-make-requires
 make-requires c κs =
     let start = c .before .before in
     rw (lent-is (start .args .t) (start .args .space .now)) (start .pre .2, start .pre .3, start .pre .4)
-
-same-length : tie.Need-same-length
-same-length c = search needs
 
 returns : tie.Need-returns
 returns c =
@@ -44,13 +23,5 @@ returns c =
 pub make-in-spec : {M : Type 1} → statement M
 make-in-spec =
     tie.close
-    (tie.spec
-    mul-a
-    add-b
-    mul-make
-    sub-make
-    part-make-start
-    part-make-end
-    make-requires
-    same-length
-    returns)
+    (tie.spec (λ c. search needs) (λ c. search needs) (λ c. search needs) (λ c. search needs) (λ c. search needs) (λ c. search needs) make-requires
+    (λ c. search needs) returns)

@@ -4,36 +4,6 @@ use borrow.Author.Needs.{needs}
 use Rattle.mmc_store.proofs.tables.tally.Statement.{statement}
 use Rattle.mmc_store.proofs.tables.tally.Tie as tie
 
-add-put-in : tie.Need-add-put-in
-add-put-in c = search needs
-
-add-put-in-2 : tie.Need-add-put-in-2
-add-put-in-2 c = search needs
-
-put-in-requires : tie.Need-put-in-requires
-put-in-requires c κs = search needs
-
-value-in-requires : tie.Need-value-in-requires
-value-in-requires c κs = search needs
-
-add-larger : tie.Need-add-larger
-add-larger c = search needs
-
-mul-larger : tie.Need-mul-larger
-mul-larger c = search needs
-
-add-larger-2 : tie.Need-add-larger-2
-add-larger-2 c = search needs
-
-larger-requires : tie.Need-larger-requires
-larger-requires c κs = search needs
-
-put-in-requires-2 : tie.Need-put-in-requires-2
-put-in-requires-2 c κs = search needs
-
-same-length : tie.Need-same-length
-same-length c = search needs
-
 returns : tie.Need-returns
 returns c =
     let raised = c .before .before .put-in2 in
@@ -45,15 +15,5 @@ returns c =
 pub tally-spec : {M : Type 1} → statement M
 tally-spec =
     tie.close
-    (tie.spec
-    add-put-in
-    add-put-in-2
-    put-in-requires
-    value-in-requires
-    add-larger
-    mul-larger
-    add-larger-2
-    larger-requires
-    put-in-requires-2
-    same-length
-    returns)
+    (tie.spec (λ c. search needs) (λ c. search needs) (λ c κs. search needs) (λ c κs. search needs) (λ c. search needs) (λ c. search needs)
+    (λ c. search needs) (λ c κs. search needs) (λ c κs. search needs) (λ c. search needs) returns)
