@@ -18,7 +18,7 @@ use Rattle.mmc_store.specs.Ways.{Few}
 use Rattle.mmc_store.specs.Places.{part, tables, reached, Changed, Tallied, Held, Ready, Through}
 use Rattle.mmc_store.proofs.Entries.{places-le}
 use Rattle.mmc_store.proofs.Becoming.{becomes-again, becomes-new, becomes-same, absent-new, absent-same, count-le}
-use Rattle.mmc_store.proofs.Few.{few-kept, few-new, few-way, few-less, few-within}
+use Rattle.mmc_store.proofs.Few.{few-kept, few-more, few-less}
 use Rattle.mmc_store.proofs.Nodes.{word-le, node-le, node-next}
 use Rattle.mmc_store.proofs.Kept.{kept-table, kept-places, closed-up}
 use Rattle.mmc_store.proofs.Made.{grow-none, grow-kept, grow-other, grow-waits, grow-some, grow-number, grow-value}
@@ -36,7 +36,7 @@ uncounted {N} {cap} {s} {i} {k} {E} {m} w byte j a b z =
     ∙ kept-table (w .kept) (suc j) b .none counts (omega arith)
 
 module _
-    {N cap : ℕ} (caps : cap + suc N < room) (le : suc N ≤ cap) {s : List ℕ} {i l c : ℕ} {known : Bool} {live : ℕ} {E m : List ℕ}
+    {N cap : ℕ} (caps : cap + suc N < room) {s : List ℕ} {i l c : ℕ} {known : Bool} {live : ℕ} {E m : List ℕ}
     (w : Ready N cap s i l c known live E m) where
   abbrev x : ℕ
   x = getD s i 0
@@ -73,7 +73,7 @@ module _
   entries-here = w .held .entries-are l (w .one) ∙ ap (λ (u : Level). u .entries) (waits l (omega arith))
 
   few : (j : ℕ) → j < N → number (T (suc j)) < room
-  few j a = omega (arith, few-within (w .held .roomy j a) (omega arith))
+  few j a = omega (arith, w .held .roomy j a .most)
 
   words-few : words T l < room
   unfolding words
@@ -199,14 +199,13 @@ module _
         still : (node T s (suc l) (suc i) ≡ 0 → may ≡ false) → Few (suc N) cap s (suc i) (suc l) (number (T₁ (suc l)))
         still f = subst (λ (U : ℕ → List ℕ). Few (suc N) cap s (suc i) (suc l) (number (U (suc l)))) (sym (same₁ f)) (few-kept few-here)
 
-        new : node T s (suc l) (suc i) ≡ 0 → l < live → Dec (v .entries < cap) → Few (suc N) cap s (suc i) (suc l) (suc (number (T (suc l))))
-        new z a (yes h) = few-new few-here h (grows z (suc l) (omega arith) (omega (arith, w .one)) (w .taking) h)
-        new z a (no g) =
+        new : node T s (suc l) (suc i) ≡ 0 → l < live → Few (suc N) cap s (suc i) (suc l) (suc (number (T (suc l))))
+        new z a =
             let e : live ≡ suc (live - 1) = omega arith in
-            few-way few-here le (omega (arith, w .one)) (omega arith) (suc (live - 1)) (omega arith) (omega (arith, w .live-is .within)) (w .live-is .below (live - 1) e) (grows z)
+            few-more few-here (w .taking) (suc (live - 1)) (omega arith) (omega (arith, w .live-is .within)) (w .live-is .below (live - 1) e) (grows z)
 
         go : Dec (node T s (suc l) (suc i) ≡ 0) → Dec (l < live) → Few (suc N) cap s (suc i) (suc l) (number (T₁ (suc l)))
-        go (yes z) (yes a) = few-less (new z a (decLt (v .entries) cap)) more₁
+        go (yes z) (yes a) = few-less (new z a) more₁
         go (yes z) (no g) = still (λ q. le-ltb l live (omega arith))
         go (no f) d = still (λ z. absurd (f z))
 

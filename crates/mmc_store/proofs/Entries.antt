@@ -1,17 +1,15 @@
--- What a level has counted before a place: no more than its cap and the places allow, below the cap every place, and at most one entry more than
--- the next longer level. Assumes nothing.
-use Prim.Native.Nat.{ℕ, zero, suc, _+_, _-_, _≤_, _<_}
-use mathlib.Core.Path.{_≡_, refl, sym, ap, _∙_}
-use mathlib.Core.Bool.{Bool, true, false, cond, _&&_}
-use mathlib.Core.List.{List, [], _∷_}
+-- What a level has counted before a place: no more than its cap and the places allow. Assumes nothing.
+use Prim.Native.Nat.{ℕ, zero, suc, _-_, _≤_, _<_}
+use mathlib.Core.Path.{_≡_, refl}
+use mathlib.Core.Bool.{Bool, true, false, cond}
+use mathlib.Core.List.{List}
 use native.Mathlib.Omega.{arith}
 use native.Mathlib.Decide.{decLt}
 use lib.ListN.{length, getD}
 use lib.Dec.{eqb, ltb}
 use borrow.Author.Tests.{ltb-true, ltb-false, lt-ltb, le-ltb, eqb-true, eqb-false}
-use Rattle.mmc_store.specs.Counts.{same, present, count}
+use Rattle.mmc_store.specs.Counts.{present, count}
 use Rattle.mmc_store.specs.Levels.{Level, nothing, counting, whenFound, whenAbsent, found, level}
-use Rattle.mmc_store.specs.Ways.{every}
 use Rattle.mmc_store.proofs.Same.{and-left}
 
 -- before the place of its own length a level has counted nothing
@@ -69,14 +67,6 @@ module _ (cap : ℕ) (s : List ℕ) (L : ℕ) (A : ℕ → Level → Type 0) whe
           (λ a b. still i (level cap s i L) m h a)
 
 -- ---- how much a level has counted
-pub level-entries : (cap : ℕ) (s : List ℕ) (i L : ℕ) → level cap s i L .entries ≤ cap
-level-entries cap s i L =
-    level-all cap s L (λ i v. v .entries ≤ cap) (λ i l. omega arith) (λ i v l h a. omega arith) (λ i v l h. omega arith) (λ i v l h a. h) i
-
-pub entries-le : (cap : ℕ) (s : List ℕ) (L i : ℕ) → level cap s i L .entries ≤ i - L
-entries-le cap s L i =
-    level-all cap s L (λ i v. v .entries ≤ i - L) (λ i l. omega arith) (λ i v l h a. omega arith) (λ i v l h. omega arith) (λ i v l h a. omega arith) i
-
 pub places-le : (cap : ℕ) (s : List ℕ) (L i : ℕ) → length (level cap s i L .places) ≤ i - L
 places-le cap s L i =
     level-all cap s L (λ i v. length (v .places) ≤ i - L) (λ i l. omega arith) (λ i v l h a. omega arith) (λ i v l h. omega arith)
@@ -90,80 +80,6 @@ entries-grow cap s L i = go (decLt i L)
     go (no l) =
         level-cases cap s L i (λ w. level cap s i L .entries ≤ w .entries) (omega arith) (λ a b. omega arith) (λ a b. omega arith) (λ a b. omega arith)
 
--- ---- below the cap every place was counted
-every-next : (i L : ℕ) → L ≤ i → every (suc i) L ≡ i ∷ every i L
-unfolding every
-every-next i L l = rw (le-ltb i L l)
-
-every-early : (i L : ℕ) → i ≤ L → every i L ≡ []
-unfolding every
-every-early zero L l = refl
-every-early (suc i) L l = rw (lt-ltb i L l)
-
-pub full : (cap : ℕ) (s : List ℕ) (L i : ℕ) → level cap s i L .entries < cap → level cap s i L .places ≡ every i L
-full cap s L i =
-    level-all cap s L (λ i v. v .entries < cap → v .places ≡ every i L)
-    (λ i l h. sym (every-early i L l))
-    (λ i v l ih a h. ap (λ (t : List ℕ). i ∷ t) (ih a) ∙ sym (every-next i L l))
-    (λ i v l ih h. ap (λ (t : List ℕ). i ∷ t) (ih (omega arith)) ∙ sym (every-next i L l))
-    (λ i v l ih a h. absurd (omega arith))
-    i
-
--- ---- a level and the next longer one
--- what a longer level has counted of a context and a symbol is no more than all places have
-one-more : (s : List ℕ) (L i j x : ℕ) → cond (same s (suc L) i j && eqb (getD s i 0) x) 1 0 ≤ cond (same s L i j && eqb (getD s i 0) x) 1 0
-unfolding same
-one-more s L i j x = go (eqb (getD s (i - suc L) 0) (getD s (j - suc L) 0)) (same s L i j) (eqb (getD s i 0) x)
-  where
-    go : (a b c : Bool) → cond ((a && b) && c) 1 0 ≤ cond (b && c) 1 0
-    go true b c = omega arith
-    go false b c = omega arith
-
-count-within : (cap : ℕ) (s : List ℕ) (L i j x : ℕ) → count s (suc L) (level cap s i (suc L) .places) j x ≤ count s L (every i L) j x
-unfolding count
-count-within cap s L i j x =
-    level-all cap s (suc L) (λ i v. count s (suc L) (v .places) j x ≤ count s L (every i L) j x)
-    (λ i l. omega arith)
-    (λ i v l h a. rw (every-next i L (omega arith)) (omega (arith, one-more s L i j x)))
-    (λ i v l h. rw (every-next i L (omega arith)) (omega (arith, one-more s L i j x)))
-    (λ i v l h a. rw (every-next i L (omega arith)) (omega arith))
-    i
-
 pub found-shorter : (s : List ℕ) (at : ℕ → Level) (i L : ℕ) → found s at i (suc L) ≡ true → found s at i L ≡ true
 unfolding found
 found-shorter s at i L h = and-left (found s at i L) (present s (suc L) (at (suc L) .places) i) h
-
--- the longer level makes an entry wherever the shorter one does, but at the place of the shorter one's length
-pub one-fewer : (cap : ℕ) (s : List ℕ) (L i : ℕ) → level cap s i L .entries ≤ level cap s i (suc L) .entries + 1
-one-fewer cap s L zero = rw (level-early cap s zero L (omega arith)) (omega arith)
-one-fewer cap s L (suc i) = go (one-fewer cap s L i) (decLt i (suc L))
-  where
-    -- a pair that is new to the shorter level is new to the longer one
-    new : found s (level cap s i) i (suc L) ≡ true →
-        level cap s i L .entries < cap →
-        (found s (level cap s i) i L ≡ true → count s L (level cap s i L .places) i (getD s i 0) ≡ 0) →
-        count s (suc L) (level cap s i (suc L) .places) i (getD s i 0) ≡ 0
-    new t a b =
-        let e : count s L (every i L) i (getD s i 0) ≡ count s L (level cap s i L .places) i (getD s i 0) =
-        ap (λ (h : List ℕ). count s L h i (getD s i 0)) (sym (full cap s L i a)) in
-        omega (arith, e, b (found-shorter s (level cap s i) i L t), count-within cap s L i i (getD s i 0))
-
-    go : level cap s i L .entries ≤ level cap s i (suc L) .entries + 1 →
-        Dec (i < suc L) →
-        level cap s (suc i) L .entries ≤ level cap s (suc i) (suc L) .entries + 1
-    go ih (yes l) = omega (arith, entries-le cap s L (suc i))
-    go ih (no l) =
-        level-cases cap s L i (λ w. w .entries ≤ level cap s (suc i) (suc L) .entries + 1) (omega arith)
-        (λ a b.
-        level-cases cap s (suc L) i (λ w. level cap s i L .entries + 1 ≤ w .entries + 1) (omega arith)
-        (λ c d. omega arith)
-        (λ t d. absurd (d (new t a b)))
-        (λ c d. omega arith))
-        (λ a b. omega (arith, entries-grow cap s (suc L) i))
-        (λ a b. omega (arith, entries-grow cap s (suc L) i))
-
--- the same for a level that is longer by d
-pub few-fewer : (cap : ℕ) (s : List ℕ) (L d i : ℕ) → level cap s i L .entries ≤ level cap s i (L + d) .entries + d
-few-fewer cap s L zero i = let e : L + 0 ≡ L = omega arith in rw e (omega arith)
-few-fewer cap s L (suc d) i =
-    let e : L + suc d ≡ suc (L + d) = omega arith in rw e (omega (arith, few-fewer cap s L d i, one-fewer cap s (L + d) i))

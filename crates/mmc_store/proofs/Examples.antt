@@ -2,7 +2,6 @@
 use mathlib.Core.Path.{_≡_, refl}
 use mathlib.Core.List.{List, [], _∷_}
 use Prim.Native.Nat.{ℕ}
-use mathlib.Core.Bool.{true}
 use Rattle.race.specs.Race.{scored, standing, event, events, hits, stretch, longest}
 use Rattle.mmc_bits.specs.Levels.{levels, cap}
 use Rattle.mmc_store.specs.Counts.{same, present, count, largest, predicted}

@@ -8,7 +8,7 @@ use native.Mathlib.Decide.{decLt}
 use lib.ListN.{length, getD, take, drop, length-drop, drop-of-length-le, replicate, List·getD-append, List·getD-eq-default}
 use lib.Seq.{take-at, drop-at, getD-take, getD-drop, getD-append-add, ext-getD, length-take-le}
 use borrow.Rule.Slice.PartMut.{putMid, postOf, same-len-mid}
-use Rattle.mmc_store.specs.Words.{counts, bests, keyOf}
+use Rattle.mmc_store.specs.Words.{counts, bests}
 use Rattle.mmc_store.specs.Places.{part, tables, Changed, Tallied}
 use Rattle.table.specs.Table.{size, value, valued}
 

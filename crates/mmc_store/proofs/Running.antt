@@ -1,12 +1,12 @@
 -- The places, one after the other: the lent numbers keep the levels, and the race goes on. At the end the first numbers of the space are cleared.
 -- Assumes nothing.
 use Prim.Native.Nat.{ℕ, zero, suc, _+_, _-_, _*_, _≤_, _<_}
-use mathlib.Core.Path.{_≡_, refl, ap, _∙_}
+use mathlib.Core.Path.{_≡_, ap, _∙_}
 use mathlib.Core.List.{List, _++_}
 use native.Mathlib.Omega.{arith}
 use native.Mathlib.Decide.{decLt}
-use lib.ListN.{length, getD, set, replicate, take, drop, length-set, length-replicate, getD-replicate}
-use lib.Seq.{length-take-le, length-front, drop-append-add, drop-drop, getD-set-other}
+use lib.ListN.{length, getD, replicate, take, drop, length-replicate, getD-replicate}
+use lib.Seq.{length-take-le, length-front, drop-append-add, drop-drop}
 use borrow.Author.Tests.{le-ltb}
 use Rattle.capture.specs.Limit.{symbolLimit}
 use Rattle.race.specs.Race.{silent, judge, scored}
@@ -17,7 +17,6 @@ use Rattle.mmc_bits.specs.Levels.{firstPlace}
 use Rattle.mmc_bits.specs.Mmc.{truth}
 use Rattle.table.specs.Table as T
 use Rattle.mmc_store.specs.Levels.{level, guess}
-use Rattle.mmc_store.specs.Words.{node}
 use Rattle.mmc_store.specs.Places.{tables, reached, Held, Spots, Stands, Place, Quiet, Said}
 use Rattle.mmc_store.specs.Mmc.{tallyOf}
 use Rattle.mmc_store.specs.Space.{size, final}

@@ -5,7 +5,7 @@ use mathlib.Core.List.{List}
 use native.Mathlib.Omega.{arith}
 use lib.ListN.{getD}
 use Rattle.mmc_store.specs.Levels.{level}
-use Rattle.mmc_store.specs.Places.{tables, Live, Place, Quiet, Looks, Looked, Lives, Stands, Setting}
+use Rattle.mmc_store.specs.Places.{Live, Place, Quiet, Looks, Looked, Lives, Stands, Setting}
 use Rattle.mmc_store.proofs.Kept.{kept-places}
 use Rattle.mmc_store.proofs.Reached.{reached-waits}
 

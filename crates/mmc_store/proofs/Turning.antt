@@ -1,8 +1,7 @@
 -- The levels count a place one after the other: those that are through have the numbers of the next place's contexts, and those that wait have the
 -- place's own. A level whose context is missing is at its cap, and so are the longer ones: nothing is counted there. Assumes nothing.
 use Prim.Native.Nat.{ℕ, zero, suc, _+_, _-_, _≤_, _<_}
-use mathlib.Core.Path.{_≡_, refl, sym, ap, subst, _∙_}
-use mathlib.Core.Bool.{Bool}
+use mathlib.Core.Path.{_≡_, sym, ap, subst, _∙_}
 use mathlib.Core.List.{List}
 use native.Mathlib.Omega.{arith}
 use native.Mathlib.Numerals.{add-one}

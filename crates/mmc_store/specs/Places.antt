@@ -1,11 +1,11 @@
 -- What the code holds between two levels and between two places. Definitions only.
 use Prim.Native.Nat.{ℕ, suc, _+_, _-_, _*_, _<_, _≤_, max}
 use mathlib.Core.Path.{_≡_}
-use mathlib.Core.Bool.{Bool, true, false, cond}
+use mathlib.Core.Bool.{Bool, cond}
 use mathlib.Core.List.{List}
 use lib.Dec.{ltb}
 use lib.ListN.{getD, length, take, drop}
-use Rattle.table.specs.Table.{Table, size, number, value, grown, valued}
+use Rattle.table.specs.Table.{size, number, value, valued}
 use Rattle.race.specs.Held.{silence}
 use Rattle.mmc_bits.specs.Levels.{levels}
 use Rattle.mmc_bits.specs.Steps.{spoken}

@@ -2,7 +2,6 @@
 use crate::level::CAP;
 use crate::level::count_level;
 use crate::look::look;
-ghost use mathlib.Core.Path.{_≡_};
 ghost use Prim.Native.Nat.{_+_, _<_, _≤_};
 ghost use Rattle.mmc_bits.specs.Levels.{levels, cap};
 ghost use Rattle.mmc_store.specs.Places.{Capped, Lives, Setting, Stands, Said, Quiet, Place};

@@ -11,7 +11,7 @@ use lib.ListN.{length, length-set}
 use lib.Dec.{eqb}
 use lib.Seq.{getD-set-same, getD-set-other}
 use borrow.Author.Tests.{eqb-true, eq-eqb, ne-eqb}
-use Rattle.table.specs.Table.{size, room, chains, keyLimit, last, Chained, Table, get, number, key, value, headAt, numberAt, keyAt, linkAt, valueAt, entryOf, added, grown, valued}
+use Rattle.table.specs.Table.{size, room, chains, keyLimit, last, Table, get, number, key, value, headAt, numberAt, keyAt, linkAt, valueAt, entryOf, added, grown, valued}
 use Rattle.table.proofs.Last.{last-agree, last-le, last-holds}
 use Rattle.table.proofs.Chain.{chain-more, chain-kept}
 use Rattle.table.proofs.Walk.{residue-lt}

@@ -1,6 +1,6 @@
 -- No walk along a chain takes more than 196 steps, whatever was put in: the keys of a chain are distinct numbers below 256 * 100,020 of one residue
 -- by 131,071, and each step leaves one of them behind. Assumes nothing.
-use Prim.Native.Nat.{ℕ, zero, suc, _+_, _*_, _/_, _%_, _≤_, _<_}
+use Prim.Native.Nat.{ℕ, zero, suc, _*_, _/_, _%_, _≤_, _<_}
 use mathlib.Core.Path.{_≡_, refl, sym, ap, _∙_}
 use mathlib.Core.Bool.{Bool, true}
 use mathlib.Core.List.{List}
@@ -8,7 +8,7 @@ use native.Mathlib.Omega.{arith}
 use lib.Dec.{eqb}
 use borrow.Author.Tests.{eqb-true, eq-eqb}
 use Rattle.table.specs.Table.{chains, keyLimit, Table, get, key, number, linkAt, entryOf}
-use Rattle.table.specs.Chain.{amount, left, longestChain}
+use Rattle.table.specs.Chain.{left, longestChain}
 use Rattle.table.proofs.Walk.{Walk, link-is}
 use Rattle.table.proofs.Amount.{amount-within, amount-last, amount-here}
 

@@ -2,7 +2,6 @@
 use native.Mathlib.Omega.{arith}
 use lib.ListN.{length-set}
 use Rattle.table.specs.Table.{added}
-use borrow.Author.Needs.{needs}
 use Rattle.table.proofs.add.Statement.{statement}
 use Rattle.table.proofs.add.Tie as tie
 
@@ -31,7 +30,7 @@ returns c = (rw (c .before .before .read .ensures .0), rw (c .before .before .re
 pub add-spec : {M : Type 1} → statement M
 add-spec =
     tie.close
-    (tie.spec (λ c κs. search needs) (λ c. search needs) (λ c κs. search needs) (λ c. search needs) (λ c. search needs) (λ c. search needs)
-    (λ c. search needs) (λ c. search needs) (λ c. search needs) (λ c. search needs) (λ c. search needs) (λ c. search needs) slice-write-m-2
-    (λ c. search needs) (λ c. search needs) (λ c. search needs) slice-write-m-3 (λ c. search needs) (λ c. search needs) (λ c. search needs)
-    slice-write-m-4 (λ c. search needs) (λ c. search needs) slice-write-m-5 (λ c. search needs) slice-write-m-6 same-length returns)
+    (tie.spec (λ c κs. omega arith) (λ c. omega arith) (λ c κs. omega arith) (λ c. omega arith) (λ c. omega arith) (λ c. omega arith)
+    (λ c. omega arith) (λ c. omega arith) (λ c. omega arith) (λ c. omega arith) (λ c. omega arith) (λ c. omega arith) slice-write-m-2
+    (λ c. omega arith) (λ c. omega arith) (λ c. omega arith) slice-write-m-3 (λ c. omega arith) (λ c. omega arith) (λ c. omega arith)
+    slice-write-m-4 (λ c. omega arith) (λ c. omega arith) slice-write-m-5 (λ c. omega arith) slice-write-m-6 same-length returns)

@@ -1,6 +1,6 @@
 -- The pair is the word that the context and the symbol make: found, or made where it is missing and may be. What the level becomes is told by the
 -- test for a pair that is counted again and by the entry number, as its rules have it. Assumes nothing.
-use Prim.Native.Nat.{ℕ, suc, _+_, _*_, _<_, _≤_}
+use Prim.Native.Nat.{ℕ, suc, _+_, _*_, _<_}
 use mathlib.Core.Path.{_∙_}
 use native.Mathlib.Omega.{arith}
 use lib.Dec.{lit<}
@@ -17,9 +17,6 @@ use Rattle.mmc_store.proofs.level.count_level.Tie as tie
 -- the numbers of the store: entries and their levels fit the tables, and each fits a word
 caps : cap + suc levels < room
 caps = omega arith
-
-le : suc levels ≤ cap
-le = omega arith
 
 table-next : (l : ℕ) → l < levels → l + 1 < tablesMost
 table-next l h = omega arith
@@ -56,15 +53,15 @@ add-make-in : tie.Need-add-make-in
 add-make-in c = fits-level _ (c .before .before .before .before .pre .one)
 
 mul-make-in : tie.Need-mul-make-in
-mul-make-in c = fits-context _ (context-few caps le (c .before .before .before .before .pre))
+mul-make-in c = fits-context _ (context-few caps (c .before .before .before .before .pre))
 
 add-make-in-2 : tie.Need-add-make-in-2
-add-make-in-2 c = fits-key _ (key-fits caps le (c .before .before .before .before .pre))
+add-make-in-2 c = fits-key _ (key-fits caps (c .before .before .before .before .pre))
 
 make-in-requires : tie.Need-make-in-requires
 make-in-requires c κs =
     let ready = c .before .before .before .before .pre in
-    (ready .held .long, table-next _ (ready .one), pair-table caps le ready, pair-fits caps le ready, key-fits caps le ready)
+    (ready .held .long, table-next _ (ready .one), pair-table caps ready, pair-fits caps ready, key-fits caps ready)
 
 same-length : tie.Need-same-length
 same-length c = c .before .before .before .make-in .ensures .0 .long
@@ -72,7 +69,7 @@ same-length c = c .before .before .before .make-in .ensures .0 .long
 returns : tie.Need-returns
 returns c =
     let past = c .before .before .before in
-    through-none caps le (start past .pre) (past .make-in .ensures .0) (past .make-in .ensures .1) (c .if1 .taken)
+    through-none caps (start past .pre) (past .make-in .ensures .0) (past .make-in .ensures .1) (c .if1 .taken)
 
 add-value-in : tie.Need-add-value-in
 add-value-in c = fits-level _ (start (c .before .before .before .before) .pre .one)
@@ -81,10 +78,10 @@ value-in-requires : tie.Need-value-in-requires
 value-in-requires c κs =
     let past = c .before .before .before .before in
     let ready = start past .pre in (
-      long₁ caps le ready (past .make-in .ensures .0) (past .make-in .ensures .1),
+      long₁ caps ready (past .make-in .ensures .0) (past .make-in .ensures .1),
       table-next _ (ready .one),
       lit< tt,
-      pair-few caps le ready (past .make-in .ensures .0) (past .make-in .ensures .1),
+      pair-few caps ready (past .make-in .ensures .0) (past .make-in .ensures .1),
     )
 
 again-requires : tie.Need-again-requires
@@ -93,7 +90,7 @@ again-requires c κs = tt
 tally-requires : tie.Need-tally-requires
 tally-requires c κs =
     let read = c .before .before .before in
-    tally-ready caps le (start (made read) .pre) (made read .make-in .ensures .0) (made read .make-in .ensures .1)
+    tally-ready caps (start (made read) .pre) (made read .make-in .ensures .0) (made read .make-in .ensures .1)
     (read .value-in .ensures .0)
 
 same-length-2 : tie.Need-same-length-2
@@ -105,7 +102,7 @@ returns-2 : tie.Need-returns-2
 returns-2 c =
     let again = c .before .before .before .before .before in
     let read = again .before in
-    through-again caps le (start (made read) .pre) (made read .make-in .ensures .0) (made read .make-in .ensures .1)
+    through-again caps (start (made read) .pre) (made read .make-in .ensures .0) (made read .make-in .ensures .1)
     (read .value-in .ensures .0)
     (read .before .before .if1 .left) (c .before .before .tally .ensures) _ (again .again .ensures) (c .before .before .before .before .if2 .taken)
 
@@ -122,14 +119,14 @@ returns-3 : tie.Need-returns-3
 returns-3 c =
     let again = c .before .before .before in
     let read = again .before in
-    through-full caps le (start (made read) .pre) (made read .make-in .ensures .0) (made read .make-in .ensures .1)
+    through-full caps (start (made read) .pre) (made read .make-in .ensures .0) (made read .make-in .ensures .1)
     (read .value-in .ensures .0)
     _ (again .again .ensures) (c .before .before .if2 .left) (c .if3 .taken)
 
 tally-requires-2 : tie.Need-tally-requires-2
 tally-requires-2 c κs =
     let read = c .before .before .before .before .before in
-    tally-ready caps le (start (made read) .pre) (made read .make-in .ensures .0) (made read .make-in .ensures .1)
+    tally-ready caps (start (made read) .pre) (made read .make-in .ensures .0) (made read .make-in .ensures .1)
     (read .value-in .ensures .0)
 
 -- from where the place was counted: where the pair's count was read
@@ -155,7 +152,7 @@ returns-4 : tie.Need-returns-4
 returns-4 c =
     let read = counted (c .before) in
     let again = c .before .before .before .before .before .before .before .before in
-    through-entered caps le (start (made read) .pre) (made read .make-in .ensures .0) (made read .make-in .ensures .1)
+    through-entered caps (start (made read) .pre) (made read .make-in .ensures .0) (made read .make-in .ensures .1)
     (read .value-in .ensures .0)
     (read .before .before .if1 .left) (c .before .before .before .tally2 .ensures) _ (again .again .ensures)
     (c .before .before .before .before .before .before .before .if2 .left) (c .before .before .before .before .before .if3 .left)

@@ -1,7 +1,7 @@
 -- `lookup` meets its contract: the value that is read is the best of the context, and 0 is that of a word of which nothing was counted. The rest of
 -- a best by 256 is its symbol. Assumes nothing.
 use mathlib.Core.Path.{ap, _∙_}
-use borrow.Author.Needs.{needs}
+use native.Mathlib.Omega.{arith}
 use Rattle.mmc_store.specs.Answers.{contextOf}
 use Rattle.mmc_store.proofs.Looking.{answers-absent, answers-present}
 use Rattle.mmc_store.proofs.look.lookup.Statement.{statement}
@@ -16,4 +16,4 @@ returns-2 c = answers-present (c .before .value-in .result) (c .if1 .left) ∙ a
 pub lookup-spec : {M : Type 1} → statement M
 lookup-spec =
     tie.close
-    (tie.spec (λ c κs. search needs) returns (λ c. search needs) returns-2)
+    (tie.spec (λ c κs. omega arith) returns (λ c. omega arith) returns-2)

@@ -4,7 +4,6 @@ use mathlib.Core.Path.{refl}
 use native.Mathlib.Omega.{arith}
 use denote.Ref.{now}
 use lib.ListN.{length}
-use borrow.Author.Needs.{needs}
 use Rattle.mmc_bits.specs.Levels.{levels}
 use Rattle.mmc_store.specs.Places.{store}
 use Rattle.mmc_store.specs.Space.{size}
@@ -38,5 +37,5 @@ returns c =
 pub mmc-symbols-spec : {M : Type 1} → statement M
 mmc-symbols-spec =
     tie.close
-    (tie.spec (λ c. search needs) (λ c. search needs) part-run-end run-requires (λ c. search needs) (λ c. search needs) part-clear-end
-    (λ c κs. search needs) (λ c. search needs) returns)
+    (tie.spec (λ c. omega arith) (λ c. omega arith) part-run-end run-requires (λ c. omega arith) (λ c. omega arith) part-clear-end
+    (λ c κs. omega arith) (λ c. omega arith) returns)

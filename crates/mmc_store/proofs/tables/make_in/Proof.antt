@@ -3,7 +3,7 @@ use mathlib.Core.Path.{sym, ap, _∙_}
 use Rattle.table.specs.Table.{entryOf}
 use Rattle.mmc_store.specs.Places.{tablesMost}
 use Rattle.mmc_store.proofs.Parts.{lent-is, back}
-use borrow.Author.Needs.{needs}
+use native.Mathlib.Omega.{arith}
 use Rattle.mmc_store.proofs.tables.make_in.Statement.{statement}
 use Rattle.mmc_store.proofs.tables.make_in.Tie as tie
 
@@ -23,5 +23,5 @@ returns c =
 pub make-in-spec : {M : Type 1} → statement M
 make-in-spec =
     tie.close
-    (tie.spec (λ c. search needs) (λ c. search needs) (λ c. search needs) (λ c. search needs) (λ c. search needs) (λ c. search needs) make-requires
-    (λ c. search needs) returns)
+    (tie.spec (λ c. omega arith) (λ c. omega arith) (λ c. omega arith) (λ c. omega arith) (λ c. omega arith) (λ c. omega arith) make-requires
+    (λ c. omega arith) returns)

@@ -1,7 +1,7 @@
 -- The numbers that are lent are those of table t: its value is put there, and every other table stays. Assumes nothing.
 use Rattle.mmc_store.specs.Places.{tablesMost}
 use Rattle.mmc_store.proofs.Parts.{lent-is, back}
-use borrow.Author.Needs.{needs}
+use native.Mathlib.Omega.{arith}
 use Rattle.mmc_store.proofs.tables.put_in.Statement.{statement}
 use Rattle.mmc_store.proofs.tables.put_in.Tie as tie
 
@@ -15,5 +15,5 @@ returns c =
 pub put-in-spec : {M : Type 1} → statement M
 put-in-spec =
     tie.close
-    (tie.spec (λ c. search needs) (λ c. search needs) (λ c. search needs) (λ c. search needs) (λ c. search needs) (λ c. search needs)
-    (λ c κs. search needs) (λ c. search needs) returns)
+    (tie.spec (λ c. omega arith) (λ c. omega arith) (λ c. omega arith) (λ c. omega arith) (λ c. omega arith) (λ c. omega arith)
+    (λ c κs. omega arith) (λ c. omega arith) returns)

@@ -1,6 +1,6 @@
 -- The pair is counted in its table, and then the best of its context raised in its own, which the first left alone. Assumes nothing.
 use Rattle.mmc_store.proofs.Parts.{tallies}
-use borrow.Author.Needs.{needs}
+use native.Mathlib.Omega.{arith}
 use Rattle.mmc_store.proofs.tables.tally.Statement.{statement}
 use Rattle.mmc_store.proofs.tables.tally.Tie as tie
 
@@ -15,5 +15,5 @@ returns c =
 pub tally-spec : {M : Type 1} → statement M
 tally-spec =
     tie.close
-    (tie.spec (λ c. search needs) (λ c. search needs) (λ c κs. search needs) (λ c κs. search needs) (λ c. search needs) (λ c. search needs)
-    (λ c. search needs) (λ c κs. search needs) (λ c κs. search needs) (λ c. search needs) returns)
+    (tie.spec (λ c. omega arith) (λ c. omega arith) (λ c κs. omega arith) (λ c κs. omega arith) (λ c. omega arith) (λ c. omega arith)
+    (λ c. omega arith) (λ c κs. omega arith) (λ c κs. omega arith) (λ c. omega arith) returns)

@@ -1,6 +1,6 @@
 -- The numbers that are lent are those of table t, so its value is read. Assumes nothing.
 use Rattle.mmc_store.proofs.Parts.{lent-is}
-use borrow.Author.Needs.{needs}
+use native.Mathlib.Omega.{arith}
 use Rattle.mmc_store.proofs.tables.value_in.Statement.{statement}
 use Rattle.mmc_store.proofs.tables.value_in.Tie as tie
 
@@ -12,5 +12,5 @@ returns c =
 pub value-in-spec : {M : Type 1} → statement M
 value-in-spec =
     tie.close
-    (tie.spec (λ c. search needs) (λ c. search needs) (λ c. search needs) (λ c. search needs) (λ c. search needs) (λ c. search needs)
-    (λ c κs. search needs) returns)
+    (tie.spec (λ c. omega arith) (λ c. omega arith) (λ c. omega arith) (λ c. omega arith) (λ c. omega arith) (λ c. omega arith)
+    (λ c κs. omega arith) returns)
