@@ -2,9 +2,12 @@
 
 mod arguments;
 mod files;
+mod help;
 mod json;
+mod names;
 mod progress;
 mod rate;
+mod streams;
 mod table;
 mod work;
 
@@ -13,29 +16,31 @@ use std::process::ExitCode;
 
 fn main() -> ExitCode {
     match arguments::read(std::env::args_os().skip(1)) {
-        Ok(Call::Help) => print(arguments::HELP),
-        Ok(Call::Version) => print(concat!("abutfern ", env!("CARGO_PKG_VERSION"), "\n")),
-        Ok(Call::Rate(call)) => rated(&call),
+        Ok(Call::Help) => ended(streams::output_is_open() && streams::print(help::HELP)),
+        Ok(Call::Version) => ended(streams::output_is_open() && streams::print(help::VERSION)),
+        Ok(Call::Rate(call)) => ended(rated(&call)),
         Err(error) => {
-            eprintln!("abutfern: {error}\nabutfern --help says how to call it");
+            let usage = help::USAGE;
+            streams::say(&format!("{error}\n{usage}\nabutfern --help says the rest"));
             ExitCode::from(2)
         }
     }
 }
 
-fn print(text: &str) -> ExitCode {
-    print!("{text}");
-    ExitCode::SUCCESS
-}
-
-fn rated(call: &arguments::Rate) -> ExitCode {
-    if let Some(missing) = rate::missing() {
-        eprintln!("abutfern: the library that this was built with has no {missing} yet");
-        return ExitCode::FAILURE;
-    }
-    if work::rate_all(call) {
+fn ended(good: bool) -> ExitCode {
+    if good {
         ExitCode::SUCCESS
     } else {
         ExitCode::FAILURE
     }
+}
+
+fn rated(call: &arguments::Rate) -> bool {
+    if let Some(missing) = rate::missing() {
+        streams::say(&format!(
+            "the library that this was built with has no {missing}: build it anew, from its sources"
+        ));
+        return false;
+    }
+    streams::output_is_open() && work::rate_all(call)
 }

@@ -3,6 +3,9 @@
 use std::io::{IsTerminal, Write};
 use std::sync::Mutex;
 
+/// The most letters of the line, so that it stays one on a narrow terminal.
+const MOST: usize = 79;
+
 /// The line, shared by those who rate.
 pub struct Progress {
     state: Option<Mutex<State>>,
@@ -42,11 +45,13 @@ impl Progress {
         });
     }
 
-    /// Clears the line, so that something else can be printed.
-    pub fn clear(&self) {
-        if self.state.is_some() {
-            eprint!("\r\x1b[K");
+    /// Clears the line and keeps it clear while something else is printed.
+    pub fn aside<T>(&self, print: impl FnOnce() -> T) -> T {
+        let held = self.state.as_ref().map(Mutex::lock);
+        if held.is_some() {
+            draw("");
         }
+        print()
     }
 
     fn change(&self, change: impl FnOnce(&mut State)) {
@@ -55,11 +60,13 @@ impl Progress {
         change(&mut state);
         let now: Vec<&str> = state.now.iter().map(String::as_str).collect();
         let now: Vec<&str> = now.into_iter().filter(|what| !what.is_empty()).collect();
-        let line: String = format!("{} of {} rated; {}", state.done, state.all, now.join(", "))
-            .chars()
-            .take(100)
-            .collect();
-        eprint!("\r\x1b[K{line}");
-        let _ = std::io::stderr().flush();
+        let line = format!("{} of {} rated; {}", state.done, state.all, now.join(", "));
+        draw(&line.chars().take(MOST).collect::<String>());
     }
+}
+
+/// Writes a line in the place of the one before, where that can be.
+fn draw(line: &str) {
+    let mut terminal = std::io::stderr();
+    let _ = write!(terminal, "\r\x1b[K{line}").and_then(|()| terminal.flush());
 }

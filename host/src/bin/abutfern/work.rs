@@ -3,9 +3,9 @@
 use crate::arguments::Rate;
 use crate::progress::Progress;
 use crate::rate::{Lent, Rating, rate};
-use crate::{files, json, table};
+use crate::{files, json, names, streams, table};
 use std::collections::BTreeMap;
-use std::io::Write;
+use std::path::Path;
 use std::sync::atomic::{AtomicUsize, Ordering};
 use std::sync::mpsc::{Receiver, Sender, channel};
 
@@ -41,7 +41,7 @@ fn work(
         let Some(file) = call.files.get(i) else {
             return;
         };
-        let started = |what: &str| progress.at(job, format!("{} ({what})", file.display()));
+        let started = |what: &str| progress.at(job, format!("{} ({what})", names::shown(file)));
         started("reading");
         let rated = files::read(file).map(|capture| {
             rate(
@@ -67,31 +67,30 @@ fn print_in_order(call: &Rate, progress: &Progress, ratings: Receiver<(usize, Ra
     for (i, rated) in ratings {
         waiting.insert(i, rated);
         while let Some(rated) = waiting.remove(&printed) {
-            progress.clear();
-            let file = call.files[printed].to_string_lossy();
-            good &= print(&file, &rated, call.json);
+            let file = &call.files[printed];
+            good &= progress.aside(|| print(file, &rated, call.json));
             printed += 1;
         }
     }
-    progress.clear();
     good
 }
 
-/// Prints one rating; true if it has a figure.
-fn print(file: &str, rated: &Rated, as_json: bool) -> bool {
+/// Prints one rating; true if it has a figure. The program ends where it cannot be printed.
+fn print(file: &Path, rated: &Rated, as_json: bool) -> bool {
+    let (shown, name) = (names::shown(file), file.to_string_lossy());
     let text = match rated {
-        Ok(rating) if as_json => json::text(file, rating),
-        Ok(rating) => table::text(file, rating),
+        Ok(rating) if as_json => json::text(&name, rating),
+        Ok(rating) => table::text(&shown, rating),
         Err(error) => {
-            eprintln!("abutfern: {file} {error}");
+            streams::say(&format!("{shown} {error}"));
             if as_json {
-                json::failure(file, error)
+                json::failure(&name, error)
             } else {
                 String::new()
             }
         }
     };
-    if std::io::stdout().write_all(text.as_bytes()).is_err() {
+    if !streams::print(&text) {
         std::process::exit(1);
     }
     rated.as_ref().is_ok_and(|rating| rating.figure.number == 0)

@@ -1,0 +1,34 @@
+//! What the command says about itself.
+
+/// How it is called, on one line.
+pub const USAGE: &str = "usage: abutfern rate FILE.. --width W [--json] [--jobs N]";
+
+/// What `abutfern --version` prints.
+pub const VERSION: &str = concat!("abutfern ", env!("CARGO_PKG_VERSION"), "\n");
+
+/// What `abutfern --help` prints.
+pub const HELP: &str = "\
+abutfern: how much min-entropy a noise source gives, from captures of it
+
+  abutfern rate FILE.. --width W [--json] [--jobs N]
+
+A capture is a file with one symbol to a byte, as it was recorded, at most 16,777,216 of them; `-`
+is standard input. Four estimates are made, of NIST SP 800-90B: MultiMCW (6.3.7) and MultiMMC
+(6.3.9), each on the bits of the symbols and on the symbols themselves (literal). The board figure
+is the smallest of those that ran, in bits of min-entropy per symbol.
+
+  --width W   bits in a symbol, 1 to 8. At width 1 every byte is 0 or 1; at a width of 2 to 8 the
+              low W bits of each byte are the symbol's bits, highest first
+  --json      one JSON object per file, on a line of its own, for machines
+  --jobs N    files rated side by side (default 2); each takes its capture twice and 64 MiB
+  --          what follows is a file's name, whatever it begins with
+
+MultiMCW needs 4,096 samples and MultiMMC 4, a sample being a bit or a symbol; an estimate with
+fewer is not run, and says so. What cannot be rated is refused with a number and a reason.
+
+The exit status is 0 if every file has a board figure, 1 if one has none or the output cannot be
+written, 2 for a wrong call.
+
+  abutfern rate board-17.bin --width 8
+  abutfern rate lot-3/*.bin --width=4 --json > lot-3.json
+";
