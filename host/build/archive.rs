@@ -1,22 +1,24 @@
-//! The proved library: made by `rt staticlib abutfern`, unless the archive at hand is newer than
-//! every file of the crates, and linked. Its symbol index says which functions exist.
+//! The proved library: made by host/prove, unless the archive at hand is made from the crates as
+//! they are, and linked. Its symbol index says which functions exist.
 
-use crate::{arm, given, run};
+use crate::{arm, given, read, run, terminal, write};
+use std::fs::File;
 use std::path::{Path, PathBuf};
 use std::process::Command;
-use std::time::SystemTime;
 
-/// Links the library of this repository, or the archive that `ABUTFERN_ARCHIVE` names.
+/// Links the library of this repository, or the archive that `ABUTFERN_ARCHIVE` names. The tests
+/// find its path in `ABUTFERN_LINKED`.
 pub fn link(repository: &Path) {
     println!("cargo::rustc-check-cfg=cfg(exported, values(any()))");
-    let crates = repository.join("crates");
-    println!("cargo::rerun-if-changed={}", crates.display());
     let archive = match given("ABUTFERN_ARCHIVE") {
-        Some(archive) => archive,
-        None if crates.join("abutfern").is_dir() => make(repository, &crates),
+        Some(archive) => {
+            println!("cargo::rerun-if-changed={}", archive.display());
+            archive
+        }
+        None if repository.join("crates/abutfern").is_dir() => make(repository),
         None => return,
     };
-    println!("cargo::rerun-if-changed={}", archive.display());
+    println!("cargo::rustc-env=ABUTFERN_LINKED={}", archive.display());
     let folder = archive.parent().expect("an archive stands in a folder");
     println!("cargo::rustc-link-search=native={}", folder.display());
     println!("cargo::rustc-link-lib=static:+verbatim={}", name(&archive));
@@ -33,48 +35,55 @@ fn name(archive: &Path) -> String {
 }
 
 /// The archive for the machine that this build runs on. `rt` writes one for x86-64.
-fn make(repository: &Path, crates: &Path) -> PathBuf {
-    let folder = repository.join("target").join("staticlib");
-    let on_arm = std::env::consts::ARCH == "aarch64";
-    let archive = if on_arm {
-        folder.join("aarch64").join("libabutfern.a")
-    } else {
-        folder.join("libabutfern.a")
-    };
-    if changed(&archive) > newest(crates) {
-        return archive;
+fn make(repository: &Path) -> PathBuf {
+    let archive = repository.join("host/target/proved/libabutfern.a");
+    let proof = repository.join("host/prove");
+    for path in [
+        &repository.join("crates"),
+        &repository.join("crates.txt"),
+        &proof,
+        &archive,
+    ] {
+        println!("cargo::rerun-if-changed={}", path.display());
     }
-    let mut rt = Command::new("rt");
-    rt.current_dir(repository).args(["staticlib", "abutfern"]);
-    if on_arm {
-        arm::make(rt, &archive);
-    } else {
-        run(
-            &mut rt,
-            "the library is proved and built by `rt`, of the Rattle toolchain",
-        );
+    let mut prove = Command::new("sh");
+    prove.arg(proof);
+    if let Some(terminal) = terminal::of_cargo() {
+        prove.stderr(terminal);
+    }
+    run(&mut prove, PROVED);
+    date_back(&archive, &repository.join("crates.txt"));
+    if std::env::consts::ARCH == "aarch64" {
+        return for_arm(repository, &archive);
     }
     archive
 }
 
-/// When a file was last changed; the beginning of time if it is not there.
-fn changed(path: &Path) -> SystemTime {
-    let at = std::fs::metadata(path).and_then(|data| data.modified());
-    at.unwrap_or(SystemTime::UNIX_EPOCH)
+const PROVED: &str = "the library is proved and built by `rt`, of the Rattle toolchain";
+
+/// Gives an archive the time of an older file. Cargo takes what is newer than the beginning of a
+/// build for changed since, and the next build would be done once more.
+fn date_back(archive: &Path, older: &Path) {
+    let time = std::fs::metadata(older).and_then(|data| data.modified());
+    let file = File::options().append(true).open(archive);
+    let dated = file.and_then(|file| file.set_modified(time?));
+    dated.unwrap_or_else(|error| panic!("{}: {error}", archive.display()));
 }
 
-/// When a folder, or anything under it, was last changed.
-fn newest(folder: &Path) -> SystemTime {
-    let entries = std::fs::read_dir(folder).into_iter().flatten().flatten();
-    let paths = entries.map(|entry| entry.path());
-    let times = paths.map(|path| {
-        if path.is_dir() {
-            newest(&path)
-        } else {
-            changed(&path)
-        }
-    });
-    times.fold(changed(folder), SystemTime::max)
+/// The archive for Arm, made anew where the other one was. What is proved already `rt` does not
+/// prove again, but for the last crate.
+fn for_arm(repository: &Path, archive: &Path) -> PathBuf {
+    let own = archive.with_file_name("aarch64").join(name(archive));
+    let sources = read(&archive.with_file_name("sources"));
+    let made_from = own.with_file_name("sources");
+    let found = std::fs::read_to_string(&made_from).unwrap_or_default();
+    if !own.is_file() || found != sources {
+        let mut rt = Command::new("rt");
+        rt.current_dir(repository).args(["staticlib", "abutfern"]);
+        arm::make(rt, &own);
+        write(&made_from, &sources);
+    }
+    own
 }
 
 /// The names in an archive's symbol index: its first member, a big-endian count, as many offsets

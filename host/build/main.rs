@@ -4,6 +4,7 @@
 mod archive;
 mod arm;
 mod reference;
+mod terminal;
 
 use std::path::{Path, PathBuf};
 use std::process::Command;
@@ -26,7 +27,8 @@ fn variable(name: &str) -> String {
 /// A path that the caller may give through the environment.
 fn given(name: &str) -> Option<PathBuf> {
     println!("cargo::rerun-if-env-changed={name}");
-    std::env::var_os(name).map(PathBuf::from)
+    let path = std::env::var_os(name).filter(|path| !path.is_empty())?;
+    Some(PathBuf::from(path))
 }
 
 /// Runs a command to its end; the build stops with `hint` if it fails.
