@@ -1,6 +1,6 @@
 /* Abutfern: min-entropy of noise captures by MultiMCW and MultiMMC of NIST SP 800-90B, proved.
  *
- * Link libabutfern.a, which `rt staticlib abutfern` writes for x86-64.
+ * Link libabutfern.a, which host/prove makes; README.md beside this file says how.
  *
  * Every function takes every value and refuses by number what it cannot do:
  *   0 done

@@ -13,6 +13,11 @@ pub mod steps;
 #[cfg(has_reference)]
 pub extern crate reference;
 
+/// The Rust of README.md is a test.
+#[cfg(doctest)]
+#[doc = include_str!("../README.md")]
+pub struct Linking;
+
 pub use ffi::{Alphabet, Answer, BitRead, Estimate, Figure, Solved, Value, exported};
 
 impl Answer {
