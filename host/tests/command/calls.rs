@@ -1,0 +1,101 @@
+//! Ways to call the command, right and wrong.
+
+use crate::room::{Outcome, Room, sample, stored};
+
+#[test]
+fn a_width_after_an_equals_sign() {
+    let room = Room::new("equals");
+    room.file("board-17.bin", &sample());
+    for words in [
+        ["rate", "--width=4", "board-17.bin", "--jobs=1"],
+        ["rate", "board-17.bin", "--jobs=64", "--width=4"],
+    ] {
+        assert_eq!(room.run(&words).stdout, stored("board-17.txt"));
+    }
+}
+
+#[test]
+fn help_and_version_end_with_a_line_feed() {
+    let room = Room::new("help");
+    for words in [&["--help"][..], &["-h"], &[], &["rate", "--help"]] {
+        let help = room.run(words);
+        assert_eq!((help.status, &*help.stderr), (0, ""));
+        assert!(help.stdout.starts_with("abutfern: ") && help.stdout.ends_with(".json\n"));
+    }
+    let version = format!("abutfern {}\n", env!("CARGO_PKG_VERSION"));
+    for words in [["--version"], ["-V"]] {
+        let expected = Outcome {
+            status: 0,
+            stdout: version.clone(),
+            stderr: String::new(),
+        };
+        assert_eq!(room.run(&words), expected);
+    }
+}
+
+/// Wrong calls, their words apart by single spaces, and what is said of each.
+const WRONG: [(&str, &str); 15] = [
+    ("frob", "frob is no command; the command is rate"),
+    (
+        "a.bin --width 8",
+        "a.bin is no command; the command is rate",
+    ),
+    ("rate", "no capture file is named"),
+    (
+        "rate  --width=8",
+        "a file's name is empty; is a variable unset?",
+    ),
+    (
+        "rate - - --width=8",
+        "- is standard input, which can be read once: name it once",
+    ),
+    (
+        "rate a",
+        "the bits in a symbol are missing: --width W, 1 to 8",
+    ),
+    (
+        "rate a --width",
+        "--width takes a number from 1 to 8, and none is given",
+    ),
+    (
+        "rate a --width=",
+        "--width takes a number from 1 to 8, not ''",
+    ),
+    (
+        "rate a --width 0",
+        "--width takes a number from 1 to 8, not '0'",
+    ),
+    (
+        "rate a --width=9",
+        "--width takes a number from 1 to 8, not '9'",
+    ),
+    (
+        "rate a --width 8\n8",
+        "--width takes a number from 1 to 8, not '8\\n8'",
+    ),
+    (
+        "rate a --width=8 --jobs=0",
+        "--jobs takes a number from 1 to 64, not '0'",
+    ),
+    ("rate a --width=8 --json=1", "--json takes no value"),
+    ("rate a --width=8 --frob", "--frob is not known"),
+    (
+        "rate a -w 8",
+        "-w is not known; a file of that name is ./-w",
+    ),
+];
+
+#[test]
+fn a_wrong_call_says_what_was_wrong_and_how_to_call_it() {
+    let room = Room::new("wrong");
+    for (call, wrong) in WRONG {
+        let words: Vec<&str> = call.split(' ').collect();
+        let usage = "usage: abutfern rate FILE.. --width W [--json] [--jobs N]";
+        let expected = Outcome {
+            status: 2,
+            stdout: String::new(),
+            stderr: format!("abutfern: {wrong}\n{usage}\nabutfern --help says the rest\n"),
+        };
+        assert_eq!(room.run(&words), expected);
+    }
+}
