@@ -1,11 +1,12 @@
-//! The built command from outside: what it writes, says and ends with. A test's name is what it
-//! checks; what it should write stands in tests/data/.
+//! The built command, and what builds it, from outside. A test's name is what it
+//! checks; what the command should write stands in tests/data/.
 
 mod calls;
 mod captures;
 mod example;
 mod files;
 mod pages;
+mod proofs;
 mod room;
 mod streams;
 mod strict;
