@@ -1,3 +1,4 @@
+pub mod Small
 pub mod Same
 pub mod Largest
 pub mod Best

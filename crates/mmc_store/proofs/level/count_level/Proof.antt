@@ -3,13 +3,14 @@
 use Prim.Native.Nat.{ℕ, suc, _+_, _*_, _<_}
 use mathlib.Core.Path.{_∙_}
 use native.Mathlib.Omega.{arith}
-use lib.Dec.{lit<}
+use lib.Dec.{lit<, lit≤}
 use mir.Val.{Fits}
 use mir.Syntax.{w64}
 use borrow.Author.Needs.{scaled-fits}
 use Rattle.table.specs.Table.{room, keyLimit}
 use Rattle.mmc_bits.specs.Levels.{levels, cap}
 use Rattle.mmc_store.specs.Places.{tablesMost}
+use Rattle.mmc_store.proofs.Small.{fits-byte, fits-next}
 use Rattle.mmc_store.proofs.Counting.{context-few, key-fits, pair-table, pair-fits, long₁, pair-few, through-none, tally-ready, through-again, through-full, through-entered}
 use Rattle.mmc_store.proofs.level.count_level.Statement.{statement}
 use Rattle.mmc_store.proofs.level.count_level.Tie as tie
@@ -20,15 +21,6 @@ caps = omega arith
 
 table-next : (l : ℕ) → l < levels → l + 1 < tablesMost
 table-next l h = omega arith
-
-fits-byte : (n : ℕ) → n < 256 → Fits w64 n
-fits-byte n h = omega arith
-
-fits-next : (n : ℕ) → n < cap → Fits w64 (n + 1)
-fits-next n h = omega arith
-
-fits-level : (n : ℕ) → n < levels → Fits w64 (n + 1)
-fits-level n h = omega arith
 
 fits-context : (c : ℕ) → c < room → Fits w64 (c * 256)
 fits-context c h = omega arith
@@ -50,7 +42,7 @@ cast-x : tie.Need-cast-x
 cast-x c = let start = c .before .before .before in fits-byte _ (start .pre .place .bytes (start .args .place))
 
 add-make-in : tie.Need-add-make-in
-add-make-in c = fits-level _ (c .before .before .before .before .pre .one)
+add-make-in c = fits-next _ levels (c .before .before .before .before .pre .one) (lit≤ tt)
 
 mul-make-in : tie.Need-mul-make-in
 mul-make-in c = fits-context _ (context-few caps (c .before .before .before .before .pre))
@@ -72,7 +64,7 @@ returns c =
     through-none caps (start past .pre) (past .make-in .ensures .0) (past .make-in .ensures .1) (c .if1 .taken)
 
 add-value-in : tie.Need-add-value-in
-add-value-in c = fits-level _ (start (c .before .before .before .before) .pre .one)
+add-value-in c = fits-next _ levels (start (c .before .before .before .before) .pre .one) (lit≤ tt)
 
 value-in-requires : tie.Need-value-in-requires
 value-in-requires c κs =
@@ -140,7 +132,7 @@ element-copy-out-entries : tie.Need-element-copy-out-entries
 element-copy-out-entries c = start (made (counted c)) .pre .one
 
 add-entries : tie.Need-add-entries
-add-entries c = fits-next _ (c .before .before .before .before .before .if3 .left)
+add-entries c = fits-next _ cap (c .before .before .before .before .before .if3 .left) (lit≤ tt)
 
 element-write-entries : tie.Need-element-write-entries
 element-write-entries c = start (made (counted (c .before))) .pre .one

@@ -2,8 +2,10 @@
 -- that is missing ends the loop: the longer ones are missing too, and none of those levels may count. Assumes nothing.
 use Prim.Native.Nat.{_-_}
 use mathlib.Core.Path.{refl, sym, _∙_}
-use native.Mathlib.Omega.{arith}
+use lib.Dec.{lit<, lit≤}
+use borrow.Author.Needs.{scaled-fits}
 use Rattle.mmc_bits.specs.Levels.{levels, cap}
+use Rattle.mmc_store.proofs.Small.{fits-byte, fits-next, falls, below, within, not-more}
 use Rattle.mmc_store.proofs.Turning.{Turns, turns-start, ready, turns-next, turns-over, turns-left}
 use Rattle.mmc_store.proofs.place.count_place.Statement.{statement}
 use Rattle.mmc_store.proofs.place.count_place.Tie as tie
@@ -19,25 +21,25 @@ shared-slice-read-carry : tie.Need-shared-slice-read-carry Inv-loop μ-loop
 shared-slice-read-carry c = c .before .before .before .pre .1 .place .within
 
 cast-carry : tie.Need-cast-carry Inv-loop μ-loop
-cast-carry c = let start = c .before .before .before in omega (arith, start .pre .1 .place .bytes (start .args .place))
+cast-carry c = let start = c .before .before .before in fits-byte _ (start .pre .1 .place .bytes (start .args .place))
 
 add-carry : tie.Need-add-carry Inv-loop μ-loop
-add-carry c = let start = c .before .before .before in omega (arith, start .pre .1 .place .bytes (start .args .place))
+add-carry c = let start = c .before .before .before in fits-next _ 256 (start .pre .1 .place .bytes (start .args .place)) (lit≤ tt)
 
 loop-holds : tie.Need-loop-holds Inv-loop μ-loop
 loop-holds c = let start = c .before .before .before in turns-start (start .pre .0) (start .pre .1)
 
 mul-c : tie.Need-mul-c Inv-loop μ-loop
-mul-c c = let here = c .before .loop in omega (arith, here .inv .setting .most)
+mul-c c = scaled-fits _ 17 8 (not-more _ _ levels (c .loop-test .taken) (c .before .loop .inv .setting .most)) (lit< tt)
 
 element-copy-out-c : tie.Need-element-copy-out-c Inv-loop μ-loop
-element-copy-out-c c = let here = c .before .loop in omega (arith, here .inv .setting .most)
+element-copy-out-c c = not-more _ _ levels (c .loop-test .taken) (c .before .loop .inv .setting .most)
 
 mul-nodes : tie.Need-mul-nodes Inv-loop μ-loop
-mul-nodes c = let here = c .before .before .loop in omega (arith, here .inv .setting .most)
+mul-nodes c = scaled-fits _ 17 8 (not-more _ _ levels (c .before .loop-test .taken) (c .before .before .loop .inv .setting .most)) (lit< tt)
 
 element-write-nodes : tie.Need-element-write-nodes Inv-loop μ-loop
-element-write-nodes c = let here = c .before .before .loop in omega (arith, here .inv .setting .most)
+element-write-nodes c = not-more _ _ levels (c .before .loop-test .taken) (c .before .before .loop .inv .setting .most)
 
 same-length : tie.Need-same-length Inv-loop μ-loop
 same-length c =
@@ -55,16 +57,25 @@ count-level-requires c κs =
     let here = c .before .before .before .before .before .loop in
     ready (here .inv) (c .before .before .before .before .loop-test .taken) _ refl (c .before .before .if1 .left)
 
+-- where the turn began, from its end
+abbrev turn : tie.After-slice-known2 Inv-loop μ-loop → tie.In-loop Inv-loop μ-loop
+turn c = c .before .before .before .before .before .before .before
+
+add-l : tie.Need-add-l Inv-loop μ-loop
+add-l c = let here = turn c in fits-next _ levels (below _ _ levels (here .loop-test .taken) (here .before .loop .inv .setting .most)) (lit≤ tt)
+
+loop-less : tie.Need-loop-less Inv-loop μ-loop
+loop-less c = falls _ _ (turn c .loop-test .taken)
+
 loop-again : tie.Need-loop-again Inv-loop μ-loop
 loop-again c =
-    let here = c .before .before .before .before .before .before .before .before .loop in
-    turns-next (here .inv) (c .before .before .before .before .before .before .before .loop-test .taken) (c .before .before .count-level .ensures)
+    turns-next (turn c .before .loop .inv) (turn c .loop-test .taken) (c .before .before .count-level .ensures)
 
 mul-nodes-2 : tie.Need-mul-nodes-2 Inv-loop μ-loop
-mul-nodes-2 c = let here = c .before .loop in omega (arith, here .inv .setting .most)
+mul-nodes-2 c = let here = c .before .loop in scaled-fits _ 17 8 (within _ _ levels (here .inv .reach) (here .inv .setting .most)) (lit< tt)
 
 element-write-nodes-2 : tie.Need-element-write-nodes-2 Inv-loop μ-loop
-element-write-nodes-2 c = let here = c .before .loop in omega (arith, here .inv .setting .most, here .inv .reach)
+element-write-nodes-2 c = let here = c .before .loop in within _ _ levels (here .inv .reach) (here .inv .setting .most)
 
 same-length-2 : tie.Need-same-length-2 Inv-loop μ-loop
 same-length-2 c =
@@ -78,5 +89,5 @@ pub count-place-spec : {M : Type 1} → statement M
 count-place-spec =
     tie.close
     (tie.spec Inv-loop μ-loop shared-slice-read-carry cast-carry add-carry loop-holds mul-c element-copy-out-c mul-nodes element-write-nodes
-    same-length returns count-level-requires (λ c. omega arith) (λ c. omega arith) loop-again mul-nodes-2 element-write-nodes-2 same-length-2
+    same-length returns count-level-requires add-l loop-less loop-again mul-nodes-2 element-write-nodes-2 same-length-2
     returns-2)

@@ -2,10 +2,13 @@
 -- `score` take both over the place. The first two places find every level silent, so they change nothing in the race. Assumes nothing.
 use Prim.Native.Nat.{_-_}
 use mathlib.Core.Path.{sym, _∙_}
-use native.Mathlib.Omega.{arith}
+use native.Mathlib.Nat.{le-trans}
+use lib.Dec.{lit<, lit≤}
+use borrow.Author.Needs.{scaled-fits}
 use denote.Ref.{now}
 use lib.ListN.{length}
 use Rattle.mmc_bits.specs.Levels.{levels, cap}
+use Rattle.mmc_store.proofs.Small.{byte, fits-symbol, fits-next, falls}
 use Rattle.mmc_store.proofs.Running.{Run, run-start, quiet-start, place-of, winner-lt, scores-full, countable, scorable, run-next, run-tally}
 use Rattle.mmc_store.proofs.run.run.Statement.{statement}
 use Rattle.mmc_store.proofs.run.run.Tie as tie
@@ -30,7 +33,7 @@ loop-holds c =
     let bytes = c .before .before .before .before .before .shared-slice-known in
     let start = c .before .before .before .before .before .before in
     run-start levels cap (length (now (start .args .space))) (now (start .args .s)) (clear .last .0) (start .pre .1) (clear .ensures)
-    (omega arith) (start .pre .0) (λ j. omega (arith, bytes .given j))
+    (lit< tt) (start .pre .0) (λ j. byte (bytes .given j))
 
 at-place-requires : tie.Need-at-place-requires Inv-loop μ-loop
 at-place-requires c κs =
@@ -42,10 +45,10 @@ shared-slice-read-x : tie.Need-shared-slice-read-x Inv-loop μ-loop
 shared-slice-read-x c = here c .loop-test .taken
 
 cast-x : tie.Need-cast-x Inv-loop μ-loop
-cast-x c = let o = here c .before .loop in omega (arith, o .inv .bytes (o .place))
+cast-x c = let o = here c .before .loop in fits-symbol _ (o .inv .bytes (o .place))
 
 mul-count : tie.Need-mul-count Inv-loop μ-loop
-mul-count c = omega (arith, winner-lt (here c .before .loop .inv))
+mul-count c = scaled-fits _ levels 2 (winner-lt (here c .before .loop .inv)) (lit< tt)
 
 array-read-count : tie.Need-array-read-count Inv-loop μ-loop
 array-read-count c = winner-lt (here c .before .loop .inv)
@@ -67,10 +70,10 @@ score-requires c κs =
 add-place : tie.Need-add-place Inv-loop μ-loop
 add-place c =
     let read = c .before .before .before .before .before in
-    omega (arith, here read .loop-test .taken, here read .before .loop .inv .short)
+    fits-next _ _ (here read .loop-test .taken) (le-trans (here read .before .loop .inv .short) (lit≤ tt))
 
 loop-less : tie.Need-loop-less Inv-loop μ-loop
-loop-less c = omega (arith, here (c .before .before .before .before .before) .loop-test .taken)
+loop-less c = falls _ _ (here (c .before .before .before .before .before) .loop-test .taken)
 
 loop-again : tie.Need-loop-again Inv-loop μ-loop
 loop-again c =
