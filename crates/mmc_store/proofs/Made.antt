@@ -7,7 +7,7 @@ use native.Mathlib.Omega.{arith}
 use native.Mathlib.Decide.{ℕ-discrete, decLt}
 use lib.ListN.{getD}
 use lib.Dec.{eqb}
-use Rattle.table.specs.Table.{Table, number, value, entryOf, room, added, grown}
+use Rattle.table.specs.Table.{Table, number, value, entryOf, room, added, grown, keyLimit}
 use Rattle.table.proofs.Laws.{number-more, grown-new, grown-there, grown-not}
 use Rattle.mmc_store.specs.Counts.{same, count}
 use Rattle.mmc_store.specs.Words.{counts, bests, keyOf, node, words, Keyed, Stores, Kept}
@@ -21,11 +21,14 @@ module _ {N : ℕ} {s : List ℕ} {h T : ℕ → List ℕ} (w : Kept N s h T) (b
   abbrev k : ℕ
   k = keyOf (node T s l i) (getD s i 0)
 
+  limit : k < keyLimit
+  limit = omega (arith, node-le T s bytes l i, short, bytes i)
+
   -- ---- the word of l + 1 symbols before place i + 1 is made
   module _ (newer : 1 ≤ node T s l (suc i)) (new : node T s (suc l) (suc i) ≡ 0) (T′ : ℕ → List ℕ)
       (here : T′ (suc l) ≡ added (T (suc l)) (keyOf (node T s l i) (getD s i 0))) (others : (j : ℕ) → (j ≡ suc l → ⊥) → T′ j ≡ T j) where
     pub way-here : (j : ℕ) → node T′ s (suc l) j ≡ cond (same s (suc (suc l)) (suc i) j) (suc (number (T (suc l)))) (node T s (suc l) j)
-    way-here = node-here N T s (w .trie) bytes l i hl parent new fits T′ here others
+    way-here = node-here N T s (w .trie) bytes l i hl parent new fits limit T′ here others
 
     pub way-node : node T′ s (suc l) (suc i) ≡ suc (number (T (suc l)))
     way-node = way-here (suc i) ∙ rw (same-refl s (suc (suc l)) (suc i))
@@ -36,8 +39,8 @@ module _ {N : ℕ} {s : List ℕ} {h T : ℕ → List ℕ} (w : Kept N s h T) (b
         go : Dec (l < d) → node T′ s d j ≡ node T s d j
         go (yes g) =
             let e : suc (suc l) + (d - suc (suc l)) ≡ d = omega arith in
-            rw e at (node-above N T s (w .trie) bytes l i hl parent new fits T′ here others (d - suc (suc l)) j (omega arith))
-        go (no g) = node-below N T s (w .trie) bytes l i hl parent new fits T′ here others d j (omega arith)
+            rw e at (node-above N T s (w .trie) bytes l i hl parent new fits limit T′ here others (d - suc (suc l)) j (omega arith))
+        go (no g) = node-below N T s (w .trie) bytes l i hl parent new fits limit T′ here others d j (omega arith)
 
     missing : entryOf (T (suc l)) k ≡ 0
     missing = sym (node-next T s l i) ∙ new
@@ -49,7 +52,7 @@ module _ {N : ℕ} {s : List ℕ} {h T : ℕ → List ℕ} (w : Kept N s h T) (b
 
     words-here : words T (suc l) ≤ words T′ (suc l)
     unfolding words
-    words-here = omega (arith, ap number here, number-more (w .trie l hl .table) k fits)
+    words-here = omega (arith, ap number here, number-more (w .trie l hl .table) k fits missing limit)
 
     keyed : (d : ℕ) → d < N → Keyed (words T′ d) (T′ (suc d))
     keyed =
@@ -69,7 +72,7 @@ module _ {N : ℕ} {s : List ℕ} {h T : ℕ → List ℕ} (w : Kept N s h T) (b
         value (T (suc l)) counts (entryOf (T (suc l)) (keyOf (node T s l j) x))
     times-kept j x =
         ap₂ (λ (m : List ℕ) (e : ℕ). value m counts (entryOf m (keyOf e x))) here (way-other l j (omega arith) (λ z. omega arith))
-        ∙ pair-made (w .trie l hl .table) k fits missing (keyOf (node T s l j) x)
+        ∙ pair-made (w .trie l hl .table) k fits missing limit (keyOf (node T s l j) x)
 
     -- level l + 1: the context that was made has no best
     stored-next : suc l < N → Stores s (suc (suc l)) (h (suc l)) (node T′ s (suc l)) (T′ (suc l)) (T′ (suc (suc l)))
@@ -78,7 +81,7 @@ module _ {N : ℕ} {s : List ℕ} {h T : ℕ → List ℕ} (w : Kept N s h T) (b
         subst (λ (m : List ℕ). Stores s (suc (suc l)) (h (suc l)) (node T′ s (suc l)) m (T′ (suc (suc l)))) (sym here)
         (subst (λ (m : List ℕ). Stores s (suc (suc l)) (h (suc l)) (node T′ s (suc l)) (added (T (suc l)) k) m) (sym (others (suc (suc l)) (λ z. omega arith)))
         (way-stores (w .stores (suc l) a) (w .trie l hl .table) (suc i) (node-same T s (suc l) (suc i)) (w .trie (suc l) a)
-        (node-le T s bytes (suc l)) new k fits (node T′ s (suc l)) way-here))
+        (node-le T s bytes (suc l)) new k fits missing limit (node T′ s (suc l)) way-here))
 
     stored : (d : ℕ) → d < N → Stores s (suc d) (h d) (node T′ s d) (T′ d) (T′ (suc d))
     stored =
@@ -168,7 +171,7 @@ module _ {N : ℕ} {s : List ℕ} {h T : ℕ → List ℕ} (w : Kept N s h T) (b
         go f (no g) = omega (arith, grow-waits (suc i) g)
 
     pub grow-number : number (T′ (suc l)) ≤ suc (number (T (suc l)))
-    grow-number = grow-cases (λ b z e. omega (arith, ap number e, number-more (w .trie l hl .table) k fits)) (λ f. omega (arith, ap number (grow-same f)))
+    grow-number = grow-cases (λ b z e. omega (arith, ap number e, number-more (w .trie l hl .table) k fits (sym (node-next T s l i) ∙ z) limit)) (λ f. omega (arith, ap number (grow-same f)))
 
     -- the pair's count
     pub grow-value : value (T′ (suc l)) counts (node T′ s (suc l) (suc i)) ≡ count s (suc l) (h l) i (getD s i 0)

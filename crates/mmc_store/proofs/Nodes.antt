@@ -8,8 +8,9 @@ use native.Mathlib.Omega.{arith}
 use lib.ListN.{getD}
 use lib.Dec.{eqb}
 use borrow.Author.Tests.{eqb-true, eq-eqb, ne-eqb}
-use Rattle.table.specs.Table.{number, entryOf, room, added}
-use Rattle.table.proofs.Laws.{found-within, found-key, found-once, found-after}
+use Rattle.table.specs.Table.{number, entryOf, room, keyLimit, added}
+use Rattle.table.proofs.Found.{found-within, found-key, found-once}
+use Rattle.table.proofs.Laws.{found-after}
 use Rattle.mmc_store.specs.Counts.{same}
 use Rattle.mmc_store.specs.Words.{keyOf, node, words, Keyed, Trie}
 use Rattle.mmc_store.proofs.Same.{and-left, and-right, same-newest}
@@ -92,6 +93,7 @@ module _ (n : ℕ) (T : ℕ → List ℕ) (s : List ℕ) (t : Trie n T) (bytes :
 
   -- the word of l + 1 symbols before place i + 1 is made
   module _ (l i : ℕ) (hl : l < n) (parent : 1 ≤ node T s l i) (new : node T s (suc l) (suc i) ≡ 0) (fits : number (T (suc l)) < room)
+      (small : keyOf (node T s l i) (getD s i 0) < keyLimit)
       (T′ : ℕ → List ℕ) (here : T′ (suc l) ≡ added (T (suc l)) (keyOf (node T s l i) (getD s i 0)))
       (others : (j : ℕ) → (j ≡ suc l → ⊥) → T′ j ≡ T j) where
     abbrev k : ℕ
@@ -101,7 +103,7 @@ module _ (n : ℕ) (T : ℕ → List ℕ) (s : List ℕ) (t : Trie n T) (bytes :
     node-below d j h = node-agree T s T′ d j (λ e g k. ap (λ (m : List ℕ). entryOf m k) (others (suc e) (omega arith)))
 
     at-found : (q : ℕ) → entryOf (T′ (suc l)) q ≡ cond (eqb k q) (suc (number (T (suc l)))) (entryOf (T (suc l)) q)
-    at-found q = ap (λ (m : List ℕ). entryOf m q) here ∙ found-after (t l hl .table) k fits q
+    at-found q = ap (λ (m : List ℕ). entryOf m q) here ∙ found-after (t l hl .table) k fits (sym (node-next T s l i) ∙ new) small q
 
     -- its key is that of the same words, and no other's
     key-is : (j c : ℕ) → node T s l i ≡ c → (a b : Bool) → eqb (getD s i 0) (sy j) ≡ a → same s (suc l) i (j - 1) ≡ b → eqb k (ky l j) ≡ (a && b)

@@ -9,8 +9,9 @@ use native.Mathlib.Decide.{ℕ-discrete}
 use lib.ListN.{getD}
 use lib.Dec.{eqb}
 use borrow.Author.Tests.{eqb-true, eq-eqb, ne-eqb}
-use Rattle.table.specs.Table.{Table, number, value, entryOf, room, added, valued}
-use Rattle.table.proofs.Laws.{found-within, found-once, found-after, value-old, value-new, every-key, added-table, number-kept, value-here, value-there, key-kept, found-kept, valued-table}
+use Rattle.table.specs.Table.{Table, number, value, entryOf, room, added, valued, keyLimit}
+use Rattle.table.proofs.Found.{found-within, found-once}
+use Rattle.table.proofs.Laws.{found-after, value-old, value-new, every-key, added-table, number-kept, value-here, value-there, key-kept, found-kept, valued-table}
 use Rattle.mmc_store.specs.Counts.{same, count}
 use Rattle.mmc_store.specs.Words.{counts, bests, keyOf, best, Keyed, Stores}
 use Rattle.mmc_store.proofs.Nodes.{key-one, no-key}
@@ -27,8 +28,8 @@ pub keyed-added :
     Keyed n (added m (keyOf c x))
 keyed-added {n} {m} k c x hx lo hi small new fits = record {
   table = added-table (k .table) (keyOf c x) fits new (omega arith);
-  from = every-key (k .table) (keyOf c x) fits (λ y. 256 ≤ y) (omega arith) (k .from);
-  to = every-key (k .table) (keyOf c x) fits (λ y. y < 256 * suc n) (omega arith) (k .to);
+  from = every-key (k .table) (keyOf c x) fits new (omega arith) (λ y. 256 ≤ y) (omega arith) (k .from);
+  to = every-key (k .table) (keyOf c x) fits new (omega arith) (λ y. y < 256 * suc n) (omega arith) (k .to);
 }
 
 pub keyed-valued : {n : ℕ} {m : List ℕ} → Keyed n m → (j e v : ℕ) → j < 2 → Keyed n (valued m j (suc e) v)
@@ -47,15 +48,15 @@ stores-agree w at′ c′ p′ f g =
     record { counts-are = λ i x l. w .counts-are i x l ∙ sym (f i x); bests-are = λ i. w .bests-are i ∙ sym (g i) }
 
 -- ---- the pair of the key k is made, without a count
-module _ {p : List ℕ} (t : Table p) (k : ℕ) (fits : number p < room) (new : entryOf p k ≡ 0) where
+module _ {p : List ℕ} (t : Table p) (k : ℕ) (fits : number p < room) (new : entryOf p k ≡ 0) (small : k < keyLimit) where
   pub pair-made : (q : ℕ) → value (added p k) counts (entryOf (added p k) q) ≡ value p counts (entryOf p q)
-  pair-made q = ap (value (added p k) counts) (found-after t k fits q) ∙ go (eqb k q) refl
+  pair-made q = ap (value (added p k) counts) (found-after t k fits new small q) ∙ go (eqb k q) refl
     where
       go : (b : Bool) → eqb k q ≡ b → value (added p k) counts (cond b (suc (number p)) (entryOf p q)) ≡ value p counts (entryOf p q)
       go true e =
-          value-new t k fits counts (omega arith) ∙ sym (t .none counts (omega arith))
+          value-new t k fits new small counts (omega arith) ∙ sym (t .none counts (omega arith))
           ∙ ap (value p counts) (sym new ∙ ap (entryOf p) (eqb-true k q e))
-      go false e = value-old t k fits counts (entryOf p q) (omega arith) (found-within p q)
+      go false e = value-old t k fits new small counts (entryOf p q) (omega arith) (found-within p q)
 
 -- ---- the pair of the key k, which has the number d + 1, is counted once more
 module _ {p : List ℕ} (t : Table p) (k d n : ℕ) (is : entryOf p k ≡ suc d) (n-is : n ≡ value p counts (suc d)) where
@@ -78,7 +79,7 @@ module _ {p : List ℕ} (t : Table p) (k d n : ℕ) (is : entryOf p k ≡ suc d)
 module _ {s : List ℕ} {L : ℕ} {h : List ℕ} {at : ℕ → ℕ} {c p : List ℕ} (w : Stores s L h at c p) (t : Table c) (i : ℕ)
     (one : (j : ℕ) → same s L i j ≡ true → at i ≡ at j) where
   -- ---- the context of i is made, without a count
-  module _ (keyed : Keyed (number c) p) (within : (j : ℕ) → at j ≤ number c) (new : at i ≡ 0) (k : ℕ) (fits : number c < room)
+  module _ (keyed : Keyed (number c) p) (within : (j : ℕ) → at j ≤ number c) (new : at i ≡ 0) (k : ℕ) (fits : number c < room) (absent : entryOf c k ≡ 0) (small : k < keyLimit)
       (at′ : ℕ → ℕ) (at-is : (j : ℕ) → at′ j ≡ cond (same s L i j) (suc (number c)) (at j)) where
     way-counts : (j x : ℕ) → x < 256 → (b : Bool) → same s L i j ≡ b → count s L h j x ≡ value p counts (entryOf p (keyOf (at′ j) x))
     way-counts j x l false q = w .counts-are j x l ∙ ap (λ (n : ℕ). value p counts (entryOf p (keyOf n x))) (sym (at-is j ∙ rw q))
@@ -90,9 +91,9 @@ module _ {s : List ℕ} {L : ℕ} {h : List ℕ} {at : ℕ → ℕ} {c p : List 
 
     way-bests : (j : ℕ) (b : Bool) → same s L i j ≡ b → best s L h j ≡ value (added c k) bests (at′ j)
     way-bests j false q =
-        w .bests-are j ∙ sym (value-old t k fits bests (at j) (omega arith) (within j)) ∙ ap (value (added c k) bests) (sym (at-is j ∙ rw q))
+        w .bests-are j ∙ sym (value-old t k fits absent small bests (at j) (omega arith) (within j)) ∙ ap (value (added c k) bests) (sym (at-is j ∙ rw q))
     way-bests j true q =
-        w .bests-are j ∙ ap (value c bests) (sym (one j q) ∙ new) ∙ t .none bests (omega arith) ∙ sym (value-new t k fits bests (omega arith))
+        w .bests-are j ∙ ap (value c bests) (sym (one j q) ∙ new) ∙ t .none bests (omega arith) ∙ sym (value-new t k fits absent small bests (omega arith))
         ∙ ap (value (added c k) bests) (sym (at-is j ∙ rw q))
 
     pub way-stores : Stores s L h at′ (added c k) p

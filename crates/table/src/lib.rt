@@ -1,26 +1,29 @@
 // A table of numbered entries in a lent slice, found by their keys. Entries have the numbers 1, 2, .. in the order in which they were made, and
-// 0 is none. Links only fall, and no chain has more than 196 entries.
+// 0 is none. The keys of one residue are a tree, in which the binary digits of the quotient lead the way: a walk meets at most 9 entries.
 ghost use mathlib.Core.Path.{_≡_};
 ghost use Prim.Native.Nat.{_+_, _<_, _≤_};
 ghost use lib.ListN.{length, getD};
-ghost use Rattle.table.specs.Table.{Table, size, room, keyLimit, numberAt, valueAt, entryOf, added, grown, valued};
+ghost use Rattle.table.specs.Table.{Table, size, room, keyLimit, numberAt, valueAt, entryOf, slotOf, added, grown, valued};
+ghost use Rattle.table.specs.Seek.{Sought};
 
 // How many numbers a table has.
 pub const SIZE: usize = 655_360;
 
-// A key's chain is its residue by this number.
-const CHAINS: usize = 131_071;
+// A key's tree is its residue by this number.
+const TREES: usize = 131_071;
 
-// The newest entry of each chain stands at the chain's own number, then how many entries there are, then the entries: key, link and two values.
-const NUMBER: usize = CHAINS;
+// The first entry of each tree stands at the tree's own number, then how many entries there are, then the entries: key, two links, two values.
+const NUMBER: usize = TREES;
 
-const KEYS: usize = CHAINS + 1;
+const KEYS: usize = TREES + 1;
 
-const LINKS: usize = CHAINS + 2;
+const LINKS: usize = TREES + 2;
 
-const VALUES: usize = CHAINS + 3;
+const OTHERS: usize = TREES + 3;
 
-const SECONDS: usize = CHAINS + 4;
+const VALUES: usize = TREES + 4;
+
+const SECONDS: usize = TREES + 5;
 
 // One number of a table.
 fn read(m: &[u32], at: usize) -> usize
@@ -30,34 +33,39 @@ fn read(m: &[u32], at: usize) -> usize
     m[at] as usize
 }
 
-// The number of the entry with the key, and 0 where there is none.
-pub fn find(m: &[u32], key: usize) -> usize
-    requires { ⌜ Table (now m) ⌝ }
-    ensures { λ r. ⌜ r ≡ entryOf (now (m .entry)) key ⌝ }
+// Where the number of the entry with the key stands, or the 0 at which a walk for it ends. `met` counts the entries that were passed.
+fn seek(m: &[u32], key: usize) -> usize
+    requires { ⌜ Table (now m) × (key < keyLimit) ⌝ }
+    ensures { λ r. ⌜ Sought (now (m .entry)) key r ⌝ }
 {
-    let mut e = read(m, key % CHAINS);
+    let mut at = key % TREES;
+    let mut digits = key / TREES;
+    let mut met: usize = 0;
+    let mut e = read(m, at);
     while e != 0 {
-        if read(m, KEYS + 4 * e) == key {
-            return e;
+        if read(m, KEYS + 5 * e) == key {
+            return at;
         }
-        e = read(m, LINKS + 4 * e);
+        at = LINKS + digits % 2 + 5 * e;
+        digits = digits / 2;
+        met += 1;
+        e = read(m, at);
     }
-    0
+    at
 }
 
-// Makes an entry whose values are 0, and says its number.
-fn add(m: &mut [u32], key: usize) -> usize
-    requires { ⌜ (length (now m) ≡ size) × (getD (now m) numberAt 0 < room) × (key < keyLimit) ⌝ }
+// Makes an entry whose links and values are 0, and puts its number where the walk for its key ended.
+fn add(m: &mut [u32], key: usize, slot: usize) -> usize
+    requires { ⌜ (length (now m) ≡ size) × (getD (now m) numberAt 0 < room) × (key < keyLimit) × (slot ≡ slotOf (now m) key) × (slot < size) ⌝ }
     ensures { λ r. ⌜ (r ≡ getD (now (m .entry)) numberAt 0 + 1) × (now (m .exit) ≡ added (now (m .entry)) key) ⌝ }
 {
     let e = read(m, NUMBER) + 1;
-    let chain = key % CHAINS;
-    let first = read(m, chain);
-    m[KEYS + 4 * e] = key as u32;
-    m[LINKS + 4 * e] = first as u32;
-    m[VALUES + 4 * e] = 0;
-    m[SECONDS + 4 * e] = 0;
-    m[chain] = e as u32;
+    m[KEYS + 5 * e] = key as u32;
+    m[LINKS + 5 * e] = 0;
+    m[OTHERS + 5 * e] = 0;
+    m[VALUES + 5 * e] = 0;
+    m[SECONDS + 5 * e] = 0;
+    m[slot] = e as u32;
     m[NUMBER] = e as u32;
     e
 }
@@ -67,12 +75,13 @@ pub fn make(m: &mut [u32], key: usize, may: bool) -> usize
     requires { ⌜ Table (now m) × (getD (now m) numberAt 0 < room) × (key < keyLimit) ⌝ }
     ensures { λ r. ⌜ (now (m .exit) ≡ grown (now (m .entry)) key may) × (r ≡ entryOf (now (m .exit)) key) ⌝ }
 {
-    let e = find(m, key);
+    let slot = seek(m, key);
+    let e = read(m, slot);
     if e != 0 {
         return e;
     }
     if may {
-        return add(m, key);
+        return add(m, key, slot);
     }
     0
 }
@@ -82,7 +91,7 @@ pub fn value(m: &[u32], j: usize, e: usize) -> usize
     requires { ⌜ (length (now m) ≡ size) × (j < 2) × (e ≤ room) ⌝ }
     ensures { λ r. ⌜ (r ≡ getD (now (m .entry)) (valueAt j e) 0) × (r < 4294967296) ⌝ }
 {
-    read(m, VALUES + j + 4 * e)
+    read(m, VALUES + j + 5 * e)
 }
 
 // Gives the entry e another value j.
@@ -90,5 +99,5 @@ pub fn put(m: &mut [u32], j: usize, e: usize, v: usize)
     requires { ⌜ (length (now m) ≡ size) × (j < 2) × (e ≤ room) × (v < 4294967296) ⌝ }
     ensures { λ _. ⌜ now (m .exit) ≡ valued (now (m .entry)) j e v ⌝ }
 {
-    m[VALUES + j + 4 * e] = v as u32;
+    m[VALUES + j + 5 * e] = v as u32;
 }

@@ -1,4 +1,4 @@
--- `add` writes the numbers that its model sets, in the same order. It reads what it writes over before it writes. Assumes nothing.
+-- `add` writes the numbers that its model sets, in the same order. Assumes nothing.
 use native.Mathlib.Omega.{arith}
 use lib.ListN.{length-set}
 use Rattle.table.specs.Table.{added}
@@ -20,17 +20,23 @@ slice-write-m-5 c = simp length-set (omega arith)
 slice-write-m-6 : tie.Need-slice-write-m-6
 slice-write-m-6 c = simp length-set (omega arith)
 
+slice-write-m-7 : tie.Need-slice-write-m-7
+slice-write-m-7 c = simp length-set (omega arith)
+
 same-length : tie.Need-same-length
 same-length c = simp length-set
 
 returns : tie.Need-returns
 unfolding added
-returns c = (rw (c .before .before .read .ensures .0), rw (c .before .before .read .ensures .0, c .read2 .ensures .0))
+returns c =
+    let read = c .read .ensures .0 in
+    let start = c .before .before .before in
+    (rw read, rw (read, start .pre .3))
 
 pub add-spec : {M : Type 1} → statement M
 add-spec =
     tie.close
-    (tie.spec (λ c κs. omega arith) (λ c. omega arith) (λ c κs. omega arith) (λ c. omega arith) (λ c. omega arith) (λ c. omega arith)
-    (λ c. omega arith) (λ c. omega arith) (λ c. omega arith) (λ c. omega arith) (λ c. omega arith) (λ c. omega arith) slice-write-m-2
-    (λ c. omega arith) (λ c. omega arith) (λ c. omega arith) slice-write-m-3 (λ c. omega arith) (λ c. omega arith) (λ c. omega arith)
-    slice-write-m-4 (λ c. omega arith) (λ c. omega arith) slice-write-m-5 (λ c. omega arith) slice-write-m-6 same-length returns)
+    (tie.spec (λ c κs. omega arith) (λ c. omega arith) (λ c. omega arith) (λ c. omega arith) (λ c. omega arith) (λ c. omega arith) (λ c. omega arith)
+    (λ c. omega arith) (λ c. omega arith) (λ c. omega arith) slice-write-m-2 (λ c. omega arith) (λ c. omega arith) (λ c. omega arith) slice-write-m-3
+    (λ c. omega arith) (λ c. omega arith) (λ c. omega arith) slice-write-m-4 (λ c. omega arith) (λ c. omega arith) (λ c. omega arith) slice-write-m-5
+    (λ c. omega arith) (λ c. omega arith) slice-write-m-6 (λ c. omega arith) slice-write-m-7 same-length returns)
