@@ -9,7 +9,7 @@ use std::process::Command;
 const SOURCES: &str = "../shared/docs/src";
 
 /// Caps at which a copy of MultiMMC is built besides, with that one constant changed.
-const SMALL_CAPS: [u32; 3] = [2, 5, 11];
+const SMALL_CAPS: std::ops::RangeInclusive<u32> = 1..=20;
 
 /// Compiles the sources as the crate `reference`, if they are there.
 pub fn link(repository: &Path) {
@@ -33,14 +33,17 @@ fn write_crate(sources: &Path, folder: &Path) -> PathBuf {
     for name in ["multi_mcw", "multi_mmc", "prediction"] {
         write(&folder.join(format!("{name}.rs")), &module(name));
     }
+    let mut table = entry("100_000", "multi_mmc");
     for cap in SMALL_CAPS {
         let name = format!("multi_mmc_cap_{cap}");
         write(
             &folder.join(format!("{name}.rs")),
             &capped(&module("multi_mmc"), cap),
         );
-        root += &format!("pub mod {name};\n");
+        root += &format!("mod {name};\n");
+        table += &entry(&cap.to_string(), &name);
     }
+    root += &format!("{CAPPED}{table}];\n");
     let lib = module("lib");
     root += &cut(&lib, "pub const Z_995", ";");
     root += &cut(&lib, "pub(crate) fn dense_alphabet", "\n}\n");
@@ -64,6 +67,16 @@ pub fn bitstring(symbols: &[u8], bits_per_symbol: u8) -> Vec<u8> {
     to_bitstring(symbols, bits_per_symbol.clamp(1, 8))
 }
 ";
+
+/// The table of the caps and of what MultiMMC on literals estimates with them.
+const CAPPED: &str = "
+pub type Capped = (usize, fn(&[u8]) -> prediction::PredictionEstimate);
+pub const CAPPED: &[Capped] = &[
+";
+
+fn entry(cap: &str, module: &str) -> String {
+    format!("    ({cap}, |symbols| {module}::multimmc_literal(symbols).estimate),\n")
+}
 
 /// The text of one item, from its first words to its end.
 fn cut(text: &str, first: &str, end: &str) -> String {

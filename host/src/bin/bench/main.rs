@@ -2,11 +2,13 @@
 //! grows with the capture.
 
 mod calls;
+mod captures;
 mod clock;
+mod crafted;
 mod track;
 
 use abutfern::exported;
-use abutfern::shapes::{Shape, capture, draws};
+use captures::{Capture, captures};
 use std::process::ExitCode;
 use track::{Lent, TRACKS, Track};
 
@@ -17,31 +19,17 @@ bench: the library's time beside the Rust's, both built for release
 
   --symbols N   symbols in a capture (default 1000000)
   --only NAME   one function, as multi_mcw_literal, or calls: the functions of numbers
-  --grow        the library's time for 10,000 to 16,777,216 symbols instead
+  --grow        the library's time for 10,000 to 16,777,216 symbols instead; a length that would
+                take over five minutes is left out
 
 The best of several repeats is printed. The output and the work space are lent by the benchmark;
 the Rust allocates its own in each call.
 ";
 
-/// A capture to measure on.
-pub struct Capture {
-    pub name: &'static str,
-    pub symbols: Vec<u8>,
-    pub width: u8,
-    /// Whether values are missing below the largest, so that the rising translation renumbers.
-    pub gapped: bool,
-}
-
-/// The captures over which the worst ratio is taken.
-const CAPTURES: [(&str, Shape, usize, u8); 5] = [
-    ("uniform 8-bit", Shape::Uniform, 256, 8),
-    ("uniform 4-bit", Shape::Uniform, 16, 4),
-    ("uniform 1-bit", Shape::Uniform, 2, 1),
-    ("biased 8-bit", Shape::Biased, 256, 8),
-    ("sticky 8-bit", Shape::Sticky, 256, 8),
-];
-
 const LENGTHS: [usize; 4] = [10_000, 100_000, 1_000_000, 16_777_216];
+
+/// A length that would take more seconds, going by the length before it, is left out.
+const PATIENCE: f64 = 300.0;
 
 fn main() -> ExitCode {
     let (mut symbols, mut only, mut grow) = (1_000_000, None, false);
@@ -74,27 +62,6 @@ fn main() -> ExitCode {
 fn help(status: u8) -> ExitCode {
     print!("{HELP}");
     ExitCode::from(status)
-}
-
-fn captures(length: usize) -> Vec<Capture> {
-    let made = |name, shape, values, width, seed: u32| Capture {
-        name,
-        symbols: capture(shape, values, length, draws(seed * 1_000_003)),
-        width,
-        gapped: false,
-    };
-    let mut captures: Vec<Capture> = CAPTURES
-        .iter()
-        .zip(1..)
-        .map(|((name, shape, values, width), seed)| made(name, *shape, *values, *width, seed))
-        .collect();
-    let mut gapped = made("gapped 8-bit", Shape::Uniform, 128, 8, 6);
-    gapped.gapped = true;
-    for symbol in &mut gapped.symbols {
-        *symbol = 2 * *symbol + 1;
-    }
-    captures.push(gapped);
-    captures
 }
 
 /// One line for each track and capture, and the worst ratio of each track.
@@ -147,16 +114,27 @@ fn growth(tracks: &[&Track]) {
     for track in tracks.iter().filter(|track| exported(track.name)) {
         for capture in captures.iter().filter(|capture| (track.takes)(capture)) {
             print!("{:<22} {:<15}", track.title, capture.name);
-            for length in LENGTHS {
-                let part = Capture {
-                    name: capture.name,
-                    symbols: capture.symbols[..length].to_vec(),
-                    ..*capture
-                };
-                let seconds = clock::best(|| (track.ours)(&part, &mut lent));
-                print!("{:>12.2}", seconds * 1e9 / length as f64);
-            }
+            grown(track, capture, &mut lent);
             println!();
         }
+    }
+}
+
+/// The row of one track and capture.
+fn grown(track: &Track, capture: &Capture, lent: &mut Lent) {
+    let mut each = 0.0;
+    for length in LENGTHS {
+        if each * length as f64 > PATIENCE {
+            print!("{:>12}", "-");
+            continue;
+        }
+        let part = Capture {
+            name: capture.name,
+            symbols: capture.symbols[..length].to_vec(),
+            ..*capture
+        };
+        let seconds = clock::best(|| (track.ours)(&part, lent));
+        each = seconds / length as f64;
+        print!("{:>12.2}", each * 1e9);
     }
 }

@@ -1,6 +1,6 @@
 //! The translators and the estimators' tracks, ours and the Rust's.
 
-use crate::Capture;
+use crate::captures::{Capture, Kind};
 use crate::clock;
 use abutfern::numbers::{COUNTERS, SPACE};
 #[cfg(has_reference)]
@@ -47,12 +47,16 @@ impl Track {
     }
 }
 
-fn all(_: &Capture) -> bool {
-    true
+fn all(capture: &Capture) -> bool {
+    matches!(capture.kind, Kind::Usual | Kind::Gapped)
 }
 
 fn usual(capture: &Capture) -> bool {
-    !capture.gapped
+    capture.kind == Kind::Usual
+}
+
+fn further(capture: &Capture) -> bool {
+    matches!(capture.kind, Kind::Usual | Kind::Further)
 }
 
 fn binary(capture: &Capture) -> bool {
@@ -60,7 +64,7 @@ fn binary(capture: &Capture) -> bool {
 }
 
 fn wider(capture: &Capture) -> bool {
-    capture.width > 1 && !capture.gapped
+    capture.width > 1 && capture.kind != Kind::Gapped
 }
 
 fn mmc_literal(capture: &Capture, lent: &mut Lent) {
@@ -118,7 +122,7 @@ pub const TRACKS: [Track; 7] = [
     Track {
         name: "multi_mcw_literal",
         title: "MultiMCW literal",
-        takes: usual,
+        takes: further,
         ours: |capture, lent| {
             black_box(abutfern::multi_mcw_literal(&capture.symbols, &mut lent.out));
         },
@@ -130,7 +134,7 @@ pub const TRACKS: [Track; 7] = [
     Track {
         name: "multi_mmc",
         title: "MultiMMC bits",
-        takes: usual,
+        takes: further,
         ours: |capture, lent| {
             let counters = &mut lent.space[..COUNTERS];
             black_box(abutfern::multi_mmc(

@@ -8,32 +8,10 @@ use abutfern::random::Random;
 use abutfern::reference;
 use abutfern::shapes::{SHAPES, capture};
 
-/// A cap and MultiMMC on literals of the Rust built with it.
-type Capped = (usize, fn(&[u8]) -> (u64, u64));
-
-fn counts(estimate: &reference::prediction::PredictionEstimate) -> (u64, u64) {
-    (estimate.c, estimate.max_run_len)
-}
-
-const CAPPED: [Capped; 4] = [
-    (2, |symbols| {
-        counts(&reference::multi_mmc_cap_2::multimmc_literal(symbols).estimate)
-    }),
-    (5, |symbols| {
-        counts(&reference::multi_mmc_cap_5::multimmc_literal(symbols).estimate)
-    }),
-    (11, |symbols| {
-        counts(&reference::multi_mmc_cap_11::multimmc_literal(symbols).estimate)
-    }),
-    (100_000, |symbols| {
-        counts(&reference::multi_mmc::multimmc_literal(symbols).estimate)
-    }),
-];
-
 /// Judges the rules; returns how many differ.
 pub fn judge(clock: Clock, random: &mut Random) -> u64 {
-    let mut bits = Tally::new("level rules on bits: caps 2, 5, 11 and 100,000");
-    let mut general = Tally::new("general level rules: caps 2, 5, 11 and 100,000");
+    let mut bits = Tally::new("level rules on bits: caps 1 to 20 and 100,000");
+    let mut general = Tally::new("general level rules: caps 1 to 20 and 100,000");
     for () in clock.turns() {
         let most = random.one_of(&[20, 60, 150]);
         let values = random.one_of(&[1, 2, 2, 3, 3, 4, 8]);
@@ -41,10 +19,11 @@ pub fn judge(clock: Clock, random: &mut Random) -> u64 {
         let shape = random.one_of(&SHAPES);
         let symbols = capture(shape, values, length, || random.word() >> 40);
         let (data, size) = reference::value_sorted(&symbols);
-        for (cap, rust) in CAPPED {
-            let expected = rust(&symbols);
+        for (cap, rust) in reference::CAPPED {
+            let estimate = rust(&symbols);
+            let expected = (estimate.c, estimate.max_run_len);
             if size <= 2 {
-                let found = race(&data, on_bits(&data, cap));
+                let found = race(&data, on_bits(&data, *cap));
                 bits.check(found == expected, || {
                     format!(
                         "cap {cap}, {}: {found:?}, not {expected:?}",
@@ -52,7 +31,7 @@ pub fn judge(clock: Clock, random: &mut Random) -> u64 {
                     )
                 });
             }
-            let found = race(&data, in_general(&data, cap));
+            let found = race(&data, in_general(&data, *cap));
             if size > 2 {
                 general.check(found == expected, || {
                     format!(
