@@ -3,27 +3,27 @@
 use abutfern::shapes::draws;
 use std::collections::HashSet;
 
-/// Numbers so far apart have their keys, number * 256 + symbol, in one chain where the symbol falls
-/// by one: 512 * 256 - 1 is the number of chains, 131,071.
+/// Numbers so far apart have their keys, number * 256 + symbol, in one tree where the symbol falls
+/// by one: 512 * 256 - 1 is the number of trees, 131,071.
 const BLOCK: usize = 512;
 
 /// So many blocks fill a level, which makes 100,000 entries.
-const BLOCKS: usize = 196;
+const BLOCKS: usize = 195;
 
 /// Each block is the block before with every symbol one lower, until the levels are full; then the
-/// first block again and again. As every word of three symbols is new, a level's numbers rise with
-/// the place, so that from level 3 on all entries stand in 512 chains of 195 or 196. The first
-/// block's are the oldest, and a look for one passes the whole chain.
+/// last block again and again. As every word of three symbols is new, a level's numbers rise with
+/// the place, so that from level 3 on all entries stand in 512 trees of 194 or 195, whose quotients
+/// follow each other. The last block's are the deepest, and a look for one goes all the way.
 pub fn crafted(length: usize) -> Vec<u8> {
     let first = first_block();
     let symbol = |place: usize| {
-        let block = place / BLOCK;
-        first[place % BLOCK] - if block < BLOCKS { block as u8 } else { 0 }
+        let block = (place / BLOCK).min(BLOCKS - 1);
+        first[place % BLOCK] - block as u8
     };
     (0..length).map(symbol).collect()
 }
 
-/// Symbols that can fall 195 times. No two neighbours' differences come twice, so that a word of
+/// Symbols that can fall 194 times. No two neighbours' differences come twice, so that a word of
 /// three symbols tells its place.
 fn first_block() -> Vec<u8> {
     let mut draw = draws(7);
@@ -91,13 +91,13 @@ mod tests {
     }
 
     #[test]
-    fn chains_are_full() {
-        for table in &keys(&crafted(195 * BLOCK))[2..] {
-            let mut chains: HashMap<usize, usize> = HashMap::new();
+    fn trees_are_full() {
+        for table in &keys(&crafted(BLOCKS * BLOCK))[2..] {
+            let mut trees: HashMap<usize, usize> = HashMap::new();
             for key in table.keys() {
-                *chains.entry(key % 131_071).or_default() += 1;
+                *trees.entry(key % 131_071).or_default() += 1;
             }
-            let full = chains.values().filter(|length| **length >= 194).count();
+            let full = trees.values().filter(|size| **size >= 194).count();
             assert_eq!(full, BLOCK);
         }
     }
