@@ -4,7 +4,7 @@ use mathlib.Core.Path.{_≡_, sym, _∙_}
 use mathlib.Core.List.{List}
 use lib.Dec.{eqb}
 use borrow.Author.Tests.{eqb-true}
-use Rattle.table.specs.Table.{last, number, key, entryOf}
+use Rattle.table.specs.Table.{number, key, entryOf}
 use Rattle.table.proofs.Last.{last-le, last-holds}
 
 pub found-within : (m : List ℕ) (k : ℕ) → entryOf m k ≤ number m

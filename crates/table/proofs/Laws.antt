@@ -11,13 +11,13 @@ use native.Mathlib.Nat.{eq-or-lt-of-le, le-of-suc-le-suc}
 use lib.ListN.{length, length-set}
 use lib.Dec.{eqb}
 use lib.Seq.{getD-set-same, getD-set-other}
-use borrow.Author.Tests.{eqb-true, eq-eqb, ne-eqb}
+use borrow.Author.Tests.{eq-eqb, ne-eqb}
 use Rattle.table.specs.Table.{size, room, trees, keyLimit, first, last, digit, alike, stop, Table, get, number, key, value, headAt, numberAt, keyAt, linkAt, valueAt, entryOf, slotAt, met, longest, slotOf, added, grown, valued}
 use Rattle.table.proofs.Last.{last-agree}
-use Rattle.table.proofs.First.{first-within, first-kept, first-next, first-late, first-agree}
+use Rattle.table.proofs.First.{first-kept, first-next, first-late, first-agree}
 use Rattle.table.proofs.Tree.{alike-digit, alike-more, alike-right, alike-flip, alike-shorter, stop-zero, stop-next, stop-gone, stop-past, stop-alike, stop-within, stop-is, stop-once}
 use Rattle.table.proofs.Slot.{Link, ended, slot-spot, slot-empty, slot-found}
-use Rattle.table.proofs.Frame.{added-length, added-kept, not-number, not-key, not-value, not-new, added-number, added-slot, added-first, added-second, added-link, added-other, added-key}
+use Rattle.table.proofs.Frame.{added-length, added-kept, not-key, not-value, added-number, added-slot, added-first, added-second, added-link, added-other, added-key}
 
 -- ---- an entry is made
 module _ {m : List ℕ} (t : Table m) (k : ℕ) (fits : number m < room) (new : entryOf m k ≡ 0) (small : k < keyLimit) where

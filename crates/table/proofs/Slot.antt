@@ -1,14 +1,12 @@
 -- Where a walk for a missing key ends: at a head or at a link that is 0. Assumes nothing.
-use Prim.Native.Nat.{ℕ, zero, suc, _+_, _-_, _*_, _%_, _≤_, _<_}
-use mathlib.Core.Path.{_≡_, refl, sym, ap, subst, _∙_}
-use mathlib.Core.Bool.{Bool, true}
+use Prim.Native.Nat.{ℕ, zero, suc, _+_, _-_, _%_, _≤_, _<_}
+use mathlib.Core.Path.{_≡_, refl, sym, ap, _∙_}
 use mathlib.Core.Logic.{_⊎_, inl, inr, ⊎-elim}
 use mathlib.Core.List.{List}
 use native.Mathlib.Omega.{arith}
 use native.Mathlib.Decide.{ℕ-discrete}
-use lib.Dec.{eqb}
 use borrow.Author.Tests.{eq-eqb, ne-eqb}
-use Rattle.table.specs.Table.{size, room, trees, keyLimit, headAt, numberAt, keyAt, linkAt, valueAt, digit, alike, stop, Table, get, key, number, entryOf, slotAt, met, longest, slotOf}
+use Rattle.table.specs.Table.{size, trees, keyLimit, linkAt, digit, alike, stop, Table, get, key, number, entryOf, slotAt, met, longest, slotOf}
 use Rattle.table.proofs.Tree.{stop-gone, stop-past, stop-alike, stop-within, walk-is-short}
 
 -- ---- how many entries a walk meets

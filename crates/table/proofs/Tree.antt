@@ -1,6 +1,6 @@
 -- A walk for a key goes from entry to later entry, each alike in one digit more. Two walks that meet an entry meet it after as many steps, and after
 -- eight steps it has the key itself: so no walk meets more than nine, whatever was put in. Assumes nothing.
-use Prim.Native.Nat.{ℕ, zero, suc, _+_, _-_, _*_, _/_, _%_, _≤_, _<_}
+use Prim.Native.Nat.{ℕ, zero, suc, _+_, _-_, _/_, _%_, _≤_, _<_}
 use mathlib.Core.Path.{_≡_, refl, sym, ap, _∙_}
 use mathlib.Core.Bool.{Bool, true, false, cond, _&&_}
 use mathlib.Core.List.{List}
@@ -8,7 +8,7 @@ use native.Mathlib.Omega.{arith}
 use native.Mathlib.Decide.{ℕ-discrete, decLt}
 use lib.Dec.{eqb}
 use borrow.Author.Tests.{eqb-true, eq-eqb, ne-eqb}
-use Rattle.table.specs.Table.{trees, keyLimit, first, half, digit, alike, stop, Table, key, number, entryOf}
+use Rattle.table.specs.Table.{trees, keyLimit, first, half, digit, alike, stop, Table, key, number}
 use Rattle.table.proofs.First.{first-within, first-holds, first-agree}
 
 and-left : (a b : Bool) → (a && b) ≡ true → a ≡ true
