@@ -16,15 +16,17 @@ pub extern "C" fn abutfern_bit(symbols: &[u8], width: u8, i: u64) -> BitRead
 // A capture's values numbered by first sight.
 #[no_mangle]
 pub extern "C" fn abutfern_dense_alphabet(symbols: &[u8], out: &mut [u8]) -> Alphabet
-    ensures { λ r. ⌜ (r ≡ alphabetOf (now (symbols .entry)) (now (out .entry))) × (now (out .exit) ≡ outputOf dense (now (symbols .entry)) (now (out .entry))) ⌝ }
+    ensures { λ r. ⌜ (r ≡ alphabetOf (now (symbols .entry)) (now (out .entry))) ×
+        (now (out .exit) ≡ outputOf dense (now (symbols .entry)) (now (out .entry))) ⌝ }
 {
-    alphabet::dense_alphabet(symbols, out)
+    dense::dense_alphabet(symbols, out)
 }
 
 // A capture's values numbered in rising order.
 #[no_mangle]
 pub extern "C" fn abutfern_value_sorted_alphabet(symbols: &[u8], out: &mut [u8]) -> Alphabet
-    ensures { λ r. ⌜ (r ≡ alphabetOf (now (symbols .entry)) (now (out .entry))) × (now (out .exit) ≡ outputOf sorted (now (symbols .entry)) (now (out .entry))) ⌝ }
+    ensures { λ r. ⌜ (r ≡ alphabetOf (now (symbols .entry)) (now (out .entry))) ×
+        (now (out .exit) ≡ outputOf sorted (now (symbols .entry)) (now (out .entry))) ⌝ }
 {
-    alphabet::value_sorted_alphabet(symbols, out)
+    rising::value_sorted_alphabet(symbols, out)
 }

@@ -5,16 +5,16 @@ use answer::Value;
 use board::Figure;
 ghost use mathlib.Core.Path.{_≡_};
 ghost use Rattle.board.specs.Board.{figureOf};
-ghost use Rattle.prediction.specs.Bisection.{localOf};
+ghost use Rattle.bisect.specs.Bisection.{localOf};
 ghost use Rattle.prediction.specs.Estimate.{estimateOf};
-ghost use Rattle.prediction.specs.Function.{functionOf};
+ghost use Rattle.function.specs.Function.{functionOf};
 
 // The value at p of the function whose root p_local is.
 #[no_mangle]
 pub extern "C" fn abutfern_prediction_estimate_function(p: f64, max_run_len: u64, n: u64) -> Value
     ensures { λ r. ⌜ r ≡ functionOf p «max_run_len» n ⌝ }
 {
-    prediction::function::prediction_estimate_function(p, max_run_len, n)
+    function::prediction_estimate_function(p, max_run_len, n)
 }
 
 // p_local over ldomain..1, by bisection.
@@ -22,7 +22,7 @@ pub extern "C" fn abutfern_prediction_estimate_function(p: f64, max_run_len: u64
 pub extern "C" fn abutfern_calc_p_local(max_run_len: u64, n: u64, ldomain: f64) -> Solved
     ensures { λ r. ⌜ r ≡ localOf «max_run_len» n ldomain ⌝ }
 {
-    prediction::bisect::calc_p_local(max_run_len, n, ldomain)
+    bisect::calc_p_local(max_run_len, n, ldomain)
 }
 
 // The estimate of C correct of N predictions with a longest run, over an alphabet of k symbols.

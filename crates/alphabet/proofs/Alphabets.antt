@@ -11,7 +11,8 @@ use borrow.Author.Tests.{ne-eqb, eqb-true}
 use lib.Dec.{eqb}
 use lib.ListN.{length, getD, take}
 use lib.Seq.{take-suc, take-length}
-use Rattle.alphabet.specs.Alphabet.{has, one, distinct, distinctBelow, upTo, firstSight, rising, dense, sorted}
+use Rattle.capture.specs.Bits.{one}
+use Rattle.alphabet.specs.Alphabet.{has, distinct, distinctBelow, upTo, firstSight, rising, dense, sorted}
 use Rattle.alphabet.proofs.Membership.{has-at, none-in-nil, same-cut, snoc-same, up-to-in, up-to-not}
 use Rattle.alphabet.proofs.Distinct.{distinct-lt, distinct-more, distinct-same, distinct-nil}
 

@@ -7,10 +7,11 @@ use native.Mathlib.Decide.{ℕ-discrete}
 use Prim.Native.Nat.{ℕ, zero, suc, _+_, _≤_, _<_}
 use native.Mathlib.Nat.{eq-or-lt-of-le, le-of-suc-le-suc}
 use native.Mathlib.Omega.{arith}
-use Rattle.alphabet.specs.Alphabet.{has, one, distinct, distinctBelow}
+use Rattle.capture.specs.Bits.{one}
+use Rattle.alphabet.specs.Alphabet.{has, distinct, distinctBelow}
 use Rattle.alphabet.proofs.Membership.{has-append, snoc-same, snoc-other}
 
-one-le : (b : Bool) → one b ≤ 1
+pub one-le : (b : Bool) → one b ≤ 1
 one-le true = omega arith
 one-le false = omega arith
 

@@ -1,7 +1,6 @@
 pub mod Alphabets
 pub mod Distinct
 pub mod Membership
-pub mod OwnNumbers
 pub mod Tables
 pub mod Translating
 pub mod Writing

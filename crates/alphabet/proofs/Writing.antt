@@ -4,37 +4,38 @@ use mathlib.Core.List.{List, [], _∷_, _++_, map, append-assoc}
 use Prim.Native.Nat.{ℕ, suc, _+_, _-_, _≤_, _<_}
 use native.Mathlib.Numerals.{add-one}
 use native.Mathlib.Omega.{arith}
-use lib.ListN.{length, getD, set, take, drop, length-map, length-append, length-drop}
+use lib.ListN.{length, getD, set, take, drop, length-map}
 use lib.Seq.{take-suc, drop-cons, set-at, drop-at, drop-drop, length-take-le, take-all, split-at}
 use Rattle.alphabet.specs.Alphabet.{written}
-use Rattle.alphabet.specs.Numbering.{partly}
+use Rattle.alphabet.specs.inner.Numbering.{partly}
 
-pub map-append : (f : ℕ → ℕ) (s t : List ℕ) → map f (s ++ t) ≡ map f s ++ map f t
+map-append : (f : ℕ → ℕ) (s t : List ℕ) → map f (s ++ t) ≡ map f s ++ map f t
 map-append f [] t = refl
 map-append f (x ∷ s) t = ap (λ (l : List ℕ). f x ∷ l) (map-append f s t)
 
 module _ (f : ℕ → ℕ) (s out : List ℕ) where
-  pub partly-step : (i : ℕ) → i < length s → length s ≤ length out → set (partly f s i out) i (f (getD s i 0)) ≡ partly f s (i + 1) out
+  partly-step : (i : ℕ) → i < length s → length s ≤ length out
+      → set (partly f s i out) i (f (getD s i 0)) ≡ partly f s (i + 1) out
   partly-step i h l =
       let p : length (map f (take i s)) ≡ i = length-map (take i s) f ∙ length-take-le i s (omega arith) in
       ap (λ (z : List ℕ). set (map f (take i s) ++ z) i (f (getD s i 0))) (drop-cons out i 0 (omega arith))
       ∙ set-at (map f (take i s)) (getD out i 0) (drop (suc i) out) (f (getD s i 0)) i p
-      ∙ rw (add-one i, take-suc s i 0 h, map-append f (take i s) (getD s i 0 ∷ []), append-assoc (map f (take i s)) (f (getD s i 0) ∷ []) (drop (suc i) out))
+      ∙ rw (
+        add-one i,
+        take-suc s i 0 h,
+        map-append f (take i s) (getD s i 0 ∷ []),
+        append-assoc (map f (take i s)) (f (getD s i 0) ∷ []) (drop (suc i) out),
+      )
+
+  -- the number x of the symbol at place i goes out
+  pub goes-out : (i : ℕ) {j x : ℕ} {w : List ℕ} → j ≡ i + 1 → i < length s → length s ≤ length out → x ≡ f (getD s i 0)
+      → w ≡ partly f s i out → set w i x ≡ partly f s j out
+  goes-out i n h l q e = rw (e, q, n) (partly-step i h l)
 
   pub partly-end : (i : ℕ) → length s ≤ i → i ≤ length s → partly f s i out ≡ written (map f s) out
   partly-end i g h =
       let e : i ≡ length s = omega arith in
       rw (take-all i s g, length-map s f) (ap (λ (n : ℕ). map f s ++ drop n out) e)
-
-  pub partly-length : (i : ℕ) → i ≤ length s → length s ≤ length out → length (partly f s i out) ≡ length out
-  partly-length i h l =
-      omega (
-        arith,
-        length-append (map f (take i s)) (drop i out),
-        length-map (take i s) f,
-        length-take-le i s h,
-        length-drop i out,
-      )
 
   -- to translate more of an output that is translated up to place i already is to translate more of the first one
   module _ {w : List ℕ} (i : ℕ) (h : i ≤ length s) (e : w ≡ partly f s i out) where
@@ -43,7 +44,8 @@ module _ (f : ℕ → ℕ) (s out : List ℕ) where
         let n : j ≡ i + (j - i) = omega arith in
         rw n
         (sym (drop-drop (j - i) i w)
-        ∙ ap (drop (j - i)) (ap (drop i) e ∙ drop-at (map f (take i s)) (drop i out) i (length-map (take i s) f ∙ length-take-le i s h))
+        ∙ ap (drop (j - i))
+        (ap (drop i) e ∙ drop-at (map f (take i s)) (drop i out) i (length-map (take i s) f ∙ length-take-le i s h))
         ∙ drop-drop (j - i) i out)
 
     pub partly-now : w ≡ partly f s i w

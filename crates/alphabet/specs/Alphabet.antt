@@ -1,10 +1,11 @@
 -- The two numberings of the values of a capture. Definitions only.
 use Prim.Native.Nat.{ℕ, zero, suc, _+_}
-use mathlib.Core.Bool.{Bool, true, false, cond, _||_}
+use mathlib.Core.Bool.{Bool, false, cond, _||_}
 use mathlib.Core.List.{List, [], _∷_, _++_, map}
 use lib.Dec.{ltb, eqb}
 use lib.ListN.{length, drop}
 use Rattle.answer.specs.Numbers.{done, tooLong, tooShort}
+use Rattle.capture.specs.Bits.{one}
 use Rattle.capture.specs.Limit.{overLimit}
 use Rattle.alphabet.specs.declared.Alphabet.{Alphabet}
 
@@ -12,10 +13,6 @@ use Rattle.alphabet.specs.declared.Alphabet.{Alphabet}
 unfoldable pub has : ℕ → List ℕ → Bool
 has x [] = false
 has x (y ∷ ys) = eqb x y || has x ys
-
-abbrev pub one : Bool → ℕ
-one true = 1
-one false = 0
 
 -- how many of the values below v stand in the list
 unfoldable pub distinctBelow : ℕ → List ℕ → ℕ

@@ -1,2 +1,2 @@
 pub mod Alphabet
-pub mod Numbering
+pub mod inner

@@ -3,7 +3,8 @@ use Prim.Native.Nat.{ℕ}
 use mathlib.Core.Bool.{Bool, true, false, not, _&&_, _||_, cond}
 use lib.Dec.{leb, eqb}
 use lib.IntN.{pos}
-use lib.Ieee.{Float, fin, binary64, ofInt, mul, lt, le}
+use lib.Ieee.{Float, fin, binary64, mul, lt, le}
+use Rattle.rounding.specs.Doubles.{zero, one, whole}
 use Rattle.answer.specs.Numbers.{done, outOfRange, notRun}
 use Rattle.answer.specs.Refused.{minusOne}
 use Rattle.answer.specs.declared.Answer.{Answer}
@@ -25,7 +26,7 @@ firstOf a b = cond (eqb a 0) b a
 -- "among those that ran, an entropy outside 0..8 (bits: 0..1)"; a NaN is outside
 unfoldable pub inRange : Answer → Float → Bool
 inRange a top =
-    cond (eqb (a .number) done) (le (fin false 0 (pos 0)) (a .estimate .«min_entropy») && le (a .estimate .«min_entropy») top) true
+    cond (eqb (a .number) done) (le zero (a .estimate .«min_entropy») && le (a .estimate .«min_entropy») top) true
 
 -- an estimate's own figure, which is the number 6 where it did not run
 unfoldable pub entry : ℕ → Answer → Float → Figure
@@ -37,10 +38,7 @@ smaller a b = cond (eqb (b .number) done && (not (eqb (a .number) done) || lt (b
 
 -- "bit values times the clamped width"
 unfoldable pub perSymbol : Answer → ℕ → Float
-perSymbol a width = mul binary64 (a .estimate .«min_entropy») (ofInt binary64 (pos (widthOf width)))
-
-abbrev pub one : Float
-one = fin false 1 (pos 0)
+perSymbol a width = mul binary64 (a .estimate .«min_entropy») (whole (widthOf width))
 
 abbrev pub eight : Float
 eight = fin false 1 (pos 3)

@@ -8,7 +8,7 @@ use native.Mathlib.Omega.{arith}
 use borrow.Author.Tests.{eq-eqb, ne-eqb}
 use lib.ListN.{length}
 use Rattle.capture.specs.Bits.{bitAt}
-use Rattle.capture.specs.Spots.{spotOf, nextSpot, spotBit}
+use Rattle.capture.specs.inner.Spots.{spotOf, nextSpot, spotBit}
 use Rattle.capture.specs.declared.Spot.{Spot}
 
 -- a number is its quotient and remainder in one way

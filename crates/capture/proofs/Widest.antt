@@ -39,6 +39,10 @@ wide-is s v = by-width (eqb v 1)
     by-width true = refl
     by-width false = sym (le-ltb (length s) (length s) (omega arith))
 
+-- where w is the width, and v and place are as the code has them
+pub wide-found : (s : List ℕ) {w v place : ℕ} → v ≡ w → place ≡ tooWideAt s v → wide s w ≡ ltb place (length s)
+wide-found s {w} {v} e q = rw (q, ← e) (wide-is s v)
+
 pub wide-place : (s : List ℕ) (v : ℕ) → tooWideAt s v < length s → tooWideAt s v ≡ firstWide s
 wide-place s v = by-width (eqb v 1)
   where

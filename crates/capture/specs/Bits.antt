@@ -1,15 +1,19 @@
--- What bit i of a capture is. A bit source is its bytes, the bits taken of each byte, and the number of bits; a whole capture has its length times the width. Definitions only.
-use Prim.Native.Nat.{ℕ, zero, suc, _*_, _-_, _/_, _%_, _^_, _≤_, _<_}
-use mathlib.Core.Bool.{Bool, cond, _&&_}
+-- What bit i of a capture is, and how many there are. Definitions only.
+use Prim.Native.Nat.{ℕ, zero, suc, _*_, _-_, _/_, _%_, _^_}
+use mathlib.Core.Bool.{Bool, true, false, cond, _&&_}
 use mathlib.Core.List.{List, [], _∷_, _++_}
 use lib.Dec.{leb, ltb, eqb}
 use lib.ListN.{length, getD}
-use Rattle.capture.specs.Limit.{symbolLimit}
 
 -- "the low bits of each byte, highest first": bit i stands in byte i / width, with width - 1 - i % width bits of that byte after it.
 -- At width 1 the bit of a byte that is at most 1 is the byte as it is.
 unfoldable pub bitAt : List ℕ → ℕ → ℕ → ℕ
 bitAt symbols width i = getD symbols (i / width) 0 / 2 ^ (width - 1 - i % width) % 2
+
+-- 1 for what holds, so that what holds can be counted
+abbrev pub one : Bool → ℕ
+one true = 1
+one false = 0
 
 -- the first n values of f
 unfoldable pub table : ℕ → (ℕ → ℕ) → List ℕ
@@ -36,10 +40,3 @@ wide symbols width = eqb width 1 && ltb (firstWide symbols) (length symbols)
 -- where the first symbol stands that is above what the width takes; the length where there is none
 abbrev pub tooWideAt : List ℕ → ℕ → ℕ
 tooWideAt symbols width = cond (eqb width 1) (firstWide symbols) (length symbols)
-
--- a source of `count` bits, `width` to a symbol
-pub record Source (symbols : List ℕ) (width count : ℕ) : Type 0 where
-  pub short : length symbols ≤ symbolLimit
-  pub some : 0 < width
-  pub narrow : width ≤ 8
-  pub within : count ≤ length symbols * width

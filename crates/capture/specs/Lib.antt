@@ -1,4 +1,5 @@
 pub mod Bits
 pub mod Limit
 pub mod Reader
-pub mod Spots
+pub mod Refusals
+pub mod inner

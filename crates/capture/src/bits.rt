@@ -12,11 +12,18 @@ ghost use lib.Dec.{eqb, ltb};
 ghost use lib.ListN.{getD, length};
 ghost use Rattle.capture.specs.Limit.{symbolLimit, widthOf};
 ghost use Rattle.capture.specs.Bits.{bitAt, firstWide, tooWideAt};
-ghost use Rattle.capture.specs.Spots.{nextSpot, spotBit, spotOf};
+ghost use Rattle.capture.specs.inner.Spots.{nextSpot, spotBit, spotOf};
 ghost use Rattle.capture.specs.Reader.{bitRead, refusedBit};
 
 // The largest number of symbols of a capture.
 pub const SYMBOL_LIMIT: usize = 16_777_216;
+
+// A symbol as an index.
+pub fn wide(x: u8) -> usize
+    ensures { λ r. ⌜ r ≡ x ⌝ }
+{
+    x as usize
+}
 
 // Width is clamped to 1..8, so 0 is 1.
 pub fn width_of(width: u8) -> u32

@@ -1,5 +1,6 @@
 // Captures: symbols one to a byte, and what their bits are.
 pub mod bits;
+pub mod refusal;
 
 // What the bit reader returns. `place` is that of number 3.
 #[repr(C)]

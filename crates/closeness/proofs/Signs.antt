@@ -1,15 +1,14 @@
 -- A double's sign and its magnitude, by its pattern. Assumes nothing.
 use mathlib.Core.Path.{_≡_, refl, sym, ap, _∙_, subst}
 use Prim.Native.Nat.{ℕ, zero, suc, _+_, _-_, _/_, _%_, _^_, _<_}
-use native.Mathlib.Nat.{not-le-of-lt}
 use native.Mathlib.Omega.{arith}
 use mathlib.Core.Bool.{Bool, true, false, not, cond, true≢false}
-use lib.Dec.{T, leb, eqb, leb→le, not-T}
+use borrow.Author.Tests.{lt-leb}
+use lib.Dec.{T, leb, eqb}
 use lib.Ieee.{Float, nan, inf, fin, Format, binary64, prec, low, hid, ones, odd, ofFields, ofBits, toBits, nanBits, isNan, fits, ne, eq}
-use lib.Ieee.Bits.{is-false, ofBits-toBits, nanBits-is}
+use lib.Ieee.Bits.{ofBits-toBits, nanBits-is}
 use lib.Ieee.Compare.{nan-differs, differs-from-itself}
 use Rattle.closeness.specs.Magnitude.{magnitude, isInfinite, isNegative}
-use Rattle.closeness.specs.Close.{minPositive}
 
 -- ---- a NaN differs from itself, and nothing else does
 
@@ -47,7 +46,8 @@ unfolding magnitude odd
 magnitude-odd d s zero k l = refl
 magnitude-odd d s (suc q) k l = refl
 
-magnitude-top : (p q : Bool) (s : Bool) (v w : Float) → magnitude v ≡ w → magnitude (cond p (cond q (inf s) nan) v) ≡ cond p (cond q (inf false) nan) w
+magnitude-top : (p q : Bool) (s : Bool) (v w : Float) → magnitude v ≡ w
+    → magnitude (cond p (cond q (inf s) nan) v) ≡ cond p (cond q (inf false) nan) w
 unfolding magnitude
 magnitude-top true true s v w h = refl
 magnitude-top true false s v w h = refl
@@ -56,14 +56,18 @@ magnitude-top false q s v w h = h
 magnitude-fields : (f : Format) (s : Bool) (x t : ℕ) → magnitude (ofFields f s x t) ≡ ofFields f false x t
 unfolding ofFields
 magnitude-fields f s zero t = magnitude-odd (prec f) s t 0 (low f)
-magnitude-fields f s (suc x) t = magnitude-top (eqb (suc x) (ones f)) (eqb t 0) s (odd (prec f) s (hid f + t) x (low f)) (odd (prec f) false (hid f + t) x (low f)) (magnitude-odd (prec f) s (hid f + t) x (low f))
+magnitude-fields f s (suc x) t =
+    let q = hid f + t in
+    magnitude-top (eqb (suc x) (ones f)) (eqb t 0) s (odd (prec f) s q x (low f)) (odd (prec f) false q x (low f))
+    (magnitude-odd (prec f) s q x (low f))
 
 minus-odd : (d : ℕ) (s : Bool) (q k l : ℕ) → isNegative (odd d s q k l) ≡ s
 unfolding isNegative odd
 minus-odd d s zero k l = refl
 minus-odd d s (suc q) k l = refl
 
-minus-top : (p q : Bool) (s : Bool) (v : Float) → isNegative v ≡ s → T (not (isNan (cond p (cond q (inf s) nan) v))) → isNegative (cond p (cond q (inf s) nan) v) ≡ s
+minus-top : (p q : Bool) (s : Bool) (v : Float) → isNegative v ≡ s → T (not (isNan (cond p (cond q (inf s) nan) v)))
+    → isNegative (cond p (cond q (inf s) nan) v) ≡ s
 unfolding isNegative isNan
 minus-top true true s v h n = refl
 minus-top true false s v h n = absurd n
@@ -72,7 +76,9 @@ minus-top false q s v h n = h
 minus-fields : (f : Format) (s : Bool) (x t : ℕ) → T (not (isNan (ofFields f s x t))) → isNegative (ofFields f s x t) ≡ s
 unfolding ofFields
 minus-fields f s zero t n = minus-odd (prec f) s t 0 (low f)
-minus-fields f s (suc x) t n = minus-top (eqb (suc x) (ones f)) (eqb t 0) s (odd (prec f) s (hid f + t) x (low f)) (minus-odd (prec f) s (hid f + t) x (low f)) n
+minus-fields f s (suc x) t n =
+    let q = hid f + t in
+    minus-top (eqb (suc x) (ones f)) (eqb t 0) s (odd (prec f) s q x (low f)) (minus-odd (prec f) s q x (low f)) n
 
 -- ---- of a double
 
@@ -89,7 +95,7 @@ module _ (x : Float) (h : T (fits binary64 x)) where
       let w : b % 2 ^ 63 < 2 ^ 63 = omega arith in
       let p : b % 2 ^ 63 % 2 ^ 63 ≡ b % 2 ^ 63 = omega arith in
       let q : b % 2 ^ 63 % 2 ^ 52 ≡ b % 2 ^ 52 = omega arith in
-      let s : leb (2 ^ 63) (b % 2 ^ 63) ≡ false = is-false (leb (2 ^ 63) (b % 2 ^ 63)) (not-T (leb (2 ^ 63) (b % 2 ^ 63)) (λ (u : T (leb (2 ^ 63) (b % 2 ^ 63))). not-le-of-lt w (leb→le (2 ^ 63) (b % 2 ^ 63) u))) in
+      let s : leb (2 ^ 63) (b % 2 ^ 63) ≡ false = lt-leb (2 ^ 63) (b % 2 ^ 63) w in
       ofBits-is (b % 2 ^ 63)
       ∙ ap (λ (s : Bool). ofFields binary64 s (b % 2 ^ 63 % 2 ^ 63 / 2 ^ 52) (b % 2 ^ 63 % 2 ^ 52)) s
       ∙ ap (λ (y : ℕ). ofFields binary64 false (y / 2 ^ 52) (b % 2 ^ 63 % 2 ^ 52)) p
@@ -98,9 +104,11 @@ module _ (x : Float) (h : T (fits binary64 x)) where
       ∙ ap magnitude (sym (ofBits-is b) ∙ ofBits-toBits binary64 x h)
 
   pub magnitude-bits-no-nan : T (not (isNan x)) → T (not (nanBits binary64 (toBits binary64 x % 2 ^ 63)))
-  magnitude-bits-no-nan n = subst (λ (b : Bool). T (not b)) (sym (nanBits-is binary64 (toBits binary64 x % 2 ^ 63) ∙ ap isNan magnitude-is)) (magnitude-no-nan x n)
+  magnitude-bits-no-nan n =
+      subst (λ (b : Bool). T (not b)) (sym (nanBits-is binary64 (toBits binary64 x % 2 ^ 63) ∙ ap isNan magnitude-is))
+      (magnitude-no-nan x n)
 
--- ---- the infinity, and the least double that is not subnormal
+-- ---- the infinity
 
 pub infinity-bits : T (not (nanBits binary64 0x7ff0_0000_0000_0000))
 unfolding nanBits
@@ -111,7 +119,3 @@ unfolding magnitude isInfinite eq ofBits
 infinite-is nan = refl
 infinite-is (inf s) = refl
 infinite-is (fin s m e) = refl
-
-pub min-positive-is : ofBits binary64 0x0010_0000_0000_0000 ≡ minPositive
-unfolding ofBits
-min-positive-is = refl

@@ -1,8 +1,10 @@
--- The figure is never above the exact -log2 p, and at most three units below it. With p = a / b and m units: a ^ N * 2 ^ m ≤ b ^ N ≤ a ^ N * 2 ^ (m + 3), N = 2 ^ 24.
+-- The figure is never above the exact -log2 p, and at most three units below it. With p = a / b and m units: a ^ N * 2 ^ m ≤ b ^ N ≤ a ^ N * 2 ^ (m +
+-- 3), N = 2 ^ 24.
 -- The powers stay unknowns: nothing here knows how large `units` is. Assumes nothing.
 use mathlib.Core.Path.{_≡_, refl, sym, ap, _∙_, subst}
 use Prim.Native.Nat.{ℕ, _+_, _-_, _*_, _^_, _≤_, _<_}
-use native.Mathlib.Nat.{le-trans, le-of-eq, mul-one, mul-le-mul-left, mul-le-mul-right, le-of-mul-le-mul-right, eq-of-mul-eq-mul-right, mul-pos, pow-le-pow-left}
+use native.Mathlib.Nat.{le-trans, le-of-eq, mul-one, mul-le-mul-left, mul-le-mul-right, le-of-mul-le-mul-right, eq-of-mul-eq-mul-right}
+use native.Mathlib.Nat.{mul-pos, pow-le-pow-left}
 use native.Mathlib.Omega.{arith}
 use mathlib.Core.Bool.{Bool, true, false, not}
 use lib.Dec.{T, ltb, ltb→lt, nltb→le}
@@ -12,7 +14,8 @@ use lib.Ieee.Positive.{num, den, positive, den-pos, value→cross, positive-of-v
 use Rattle.rounding.proofs.Powers.{mul-pow, scaled-pow, pow-above}
 use Rattle.rounding.proofs.FromZero.{nonneg-of-positive}
 use Rattle.rounding.proofs.Compare.{eq-true}
-use Rattle.entropy.specs.Entropy.{one, units, wholeBits, leading, logDigits, entropyUnits}
+use Rattle.rounding.specs.Doubles.{one}
+use Rattle.entropy.specs.Entropy.{units, wholeBits, leading, logDigits, entropyUnits}
 use Rattle.entropy.specs.MinEntropy.{Probability}
 use Rattle.entropy.specs.DemandThree.{NeverAbove, AtMostBelow}
 use Rattle.entropy.proofs.Cases.{units-at-power, units-between}
@@ -101,16 +104,21 @@ module _ (p : Float) (r : Probability p) where
   log = logged x leading-positive (l .doubled .double) from-one to-two
 
   powers : num x ^ units * den p ^ units ≡ num p ^ units * 2 ^ (j * units) * den x ^ units
-  powers = sym (mul-pow (num x) (den p) units) ∙ ap (λ (z : ℕ). z ^ units) cross ∙ mul-pow (num p * 2 ^ j) (den x) units ∙ ap (λ (z : ℕ). z * den x ^ units) (scaled-pow (num p) j units)
+  powers = sym (mul-pow (num x) (den p) units) ∙ ap (λ (z : ℕ). z ^ units) cross ∙ mul-pow (num p * 2 ^ j) (den x) units
+      ∙ ap (λ (z : ℕ). z * den x ^ units) (scaled-pow (num p) j units)
 
   at-least : 2 ^ L * den p ^ units ≤ 2 * (num p ^ units * 2 ^ (j * units))
-  at-least = le-of-mul-le-mul-right (go (num x ^ units) (den x ^ units) (num p ^ units * 2 ^ (j * units)) (den p ^ units) (2 ^ L) powers (mul-le-mul-right (den p ^ units) (log .low))) (pow-above units (den-pos x))
+  at-least = le-of-mul-le-mul-right
+      (go (num x ^ units) (den x ^ units) (num p ^ units * 2 ^ (j * units)) (den p ^ units) (2 ^ L) powers
+      (mul-le-mul-right (den p ^ units) (log .low))) (pow-above units (den-pos x))
     where
       go : (X Y A B u : ℕ) → X * B ≡ A * Y → u * Y * B ≤ 2 * X * B → u * B * Y ≤ 2 * A * Y
       go X Y A B u e h = omega arith
 
   at-most : num p ^ units * 2 ^ (j * units) ≤ 4 * (2 ^ L * den p ^ units)
-  at-most = le-of-mul-le-mul-right (go (num x ^ units) (den x ^ units) (num p ^ units * 2 ^ (j * units)) (den p ^ units) (2 ^ L) powers (mul-le-mul-right (den p ^ units) (log .high))) (pow-above units (den-pos x))
+  at-most = le-of-mul-le-mul-right
+      (go (num x ^ units) (den x ^ units) (num p ^ units * 2 ^ (j * units)) (den p ^ units) (2 ^ L) powers
+      (mul-le-mul-right (den p ^ units) (log .high))) (pow-above units (den-pos x))
     where
       go : (X Y A B u : ℕ) → X * B ≡ A * Y → X * B ≤ 4 * (u * Y) * B → A * Y ≤ 4 * (u * B) * Y
       go X Y A B u e h = omega arith
@@ -118,10 +126,12 @@ module _ (p : Float) (r : Probability p) where
   figure-less : L + 2 < j * units → Figure (num p) (den p) (j * units - (L + 2))
   figure-less h =
       let m = j * units - (L + 2) in
-      let w : 2 ^ (j * units) ≡ 2 ^ m * (2 ^ L * 4) = ap (λ (z : ℕ). 2 ^ z) (back (j * units) (L + 2) h) ∙ pow-add 2 m (L + 2) ∙ ap (λ (z : ℕ). 2 ^ m * z) (pow-add 2 L 2) in
+      let w : 2 ^ (j * units) ≡ 2 ^ m * (2 ^ L * 4) =
+      ap (λ (z : ℕ). 2 ^ z) (back (j * units) (L + 2) h) ∙ pow-add 2 m (L + 2) ∙ ap (λ (z : ℕ). 2 ^ m * z) (pow-add 2 L 2) in
       record {
         never-above = below-end (2 ^ L) (den p ^ units) (num p ^ units) (2 ^ m) (2 ^ (j * units)) w at-most (pow-pos L);
-        close = subst (λ (z : ℕ). den p ^ units ≤ num p ^ units * z) (sym (pow-add 2 m 3)) (close-end (2 ^ L) (den p ^ units) (num p ^ units) (2 ^ m) (2 ^ (j * units)) w at-least (pow-pos L));
+        close = subst (λ (z : ℕ). den p ^ units ≤ num p ^ units * z) (sym (pow-add 2 m 3))
+            (close-end (2 ^ L) (den p ^ units) (num p ^ units) (2 ^ m) (2 ^ (j * units)) w at-least (pow-pos L));
       }
     where
       back : (n k : ℕ) → k < n → n ≡ n - k + k
@@ -145,7 +155,9 @@ module _ (p : Float) (r : Probability p) where
 
       by-test : (b : Bool) → eq x one ≡ b → Figure (num p) (den p) (entropyUnits p)
       by-test true e = subst (Figure (num p) (den p)) (sym (units-at-power p e)) (figure-exact (num p) (den p) j (is-power e))
-      by-test false e = subst (Figure (num p) (den p)) (sym (units-between p e)) (by-size (ltb (L + 2) (j * units)) (ltb→lt (L + 2) (j * units)) (nltb→le (L + 2) (j * units)))
+      by-test false e =
+          subst (Figure (num p) (den p)) (sym (units-between p e))
+          (by-size (ltb (L + 2) (j * units)) (ltb→lt (L + 2) (j * units)) (nltb→le (L + 2) (j * units)))
 
 -- ---- the two laws
 pub never-above : (p : Float) → Probability p → NeverAbove (num p) (den p) (entropyUnits p)

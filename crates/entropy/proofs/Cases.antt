@@ -7,8 +7,9 @@ use lib.Ieee.{Float, le, eq}
 use lib.Ieee.Bits.{is-true}
 use Rattle.answer.specs.Numbers.{done, outOfRange}
 use Rattle.answer.specs.Refused.{refusedValue}
-use Rattle.entropy.specs.Entropy.{one, units, wholeBits, leading, logDigits, entropyUnits, entropyOf}
-use Rattle.entropy.specs.MinEntropy.{least, minEntropyOf}
+use Rattle.rounding.specs.Doubles.{one, least}
+use Rattle.entropy.specs.Entropy.{units, wholeBits, leading, logDigits, entropyUnits, entropyOf}
+use Rattle.entropy.specs.MinEntropy.{minEntropyOf}
 
 -- ---- the figure in units
 pub units-at-power : (p : Float) → eq (leading p) one ≡ true → entropyUnits p ≡ wholeBits p * units

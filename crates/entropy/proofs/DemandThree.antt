@@ -1,4 +1,5 @@
--- Demand 3 of the letter, as a law of its own: for a probability p from 1/256 to 1, what `min_entropy` answers is a whole multiple of 2 ^ -24, and the exact -log2 p lies within 2 ^ -22 of it.
+-- Demand 3 of the letter, as a law of its own: for a probability p from 1/256 to 1, what `min_entropy` answers is a whole multiple of 2 ^ -24, and
+-- the exact -log2 p lies within 2 ^ -22 of it.
 -- It follows from the stronger one-sided laws: the figure is never above, and at most three units below. Assumes nothing.
 use mathlib.Core.Path.{sym, subst}
 use Prim.Native.Nat.{ℕ, _+_, _^_, _≤_}

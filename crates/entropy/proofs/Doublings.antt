@@ -13,8 +13,9 @@ use lib.Ieee.Positive.{num, den, positive, den-pos, value→cross, between, le�
 use Rattle.rounding.proofs.FromZero.{nonneg-of-value}
 use Rattle.rounding.proofs.Compare.{lt-true, lt-false}
 use Rattle.rounding.proofs.Exact.{scale-up}
-use Rattle.entropy.specs.Entropy.{one, two, doubledTimes, doublings, wholeBits, leading}
-use Rattle.entropy.specs.MinEntropy.{Probability, least}
+use Rattle.rounding.specs.Doubles.{one, two, least}
+use Rattle.entropy.specs.Entropy.{doubledTimes, doublings, wholeBits, leading}
+use Rattle.entropy.specs.MinEntropy.{Probability}
 use Rattle.entropy.proofs.Rounds.{doublings-more, doublings-done}
 
 -- x is 2 ^ j times p, below 2
@@ -60,7 +61,8 @@ module _ (p : Float) (r : Probability p) where
     still-below : lt x one ≡ true → num p * 2 ^ j < den p
     still-below e =
         lt-of-mul-lt-mul-right (den x)
-        (go (num x) (den x) (num p * 2 ^ j) (den p) cross (mul-lt-mul-of-pos-right (lt-true x one (nonneg-of-value x (num p * 2 ^ j) (den p) (d .value)) tt e) (den-pos p)))
+        (go (num x) (den x) (num p * 2 ^ j) (den p) cross
+        (mul-lt-mul-of-pos-right (lt-true x one (nonneg-of-value x (num p * 2 ^ j) (den p) (d .value)) tt e) (den-pos p)))
       where
         go : (n d a c : ℕ) → n * c ≡ a * d → n * 1 * c < 1 * d * c → a * d < c * d
         go n d a c e h = omega arith
@@ -68,7 +70,8 @@ module _ (p : Float) (r : Probability p) where
     at-one : lt x one ≡ false → den p ≤ num p * 2 ^ j
     at-one e =
         le-of-mul-le-mul-right
-        (go (num x) (den x) (num p * 2 ^ j) (den p) cross (mul-le-mul-right (den p) (lt-false x one (nonneg-of-value x (num p * 2 ^ j) (den p) (d .value)) tt e))) (den-pos x)
+        (go (num x) (den x) (num p * 2 ^ j) (den p) cross
+        (mul-le-mul-right (den p) (lt-false x one (nonneg-of-value x (num p * 2 ^ j) (den p) (d .value)) tt e))) (den-pos x)
       where
         go : (n d a c : ℕ) → n * c ≡ a * d → 1 * d * c ≤ n * 1 * c → c * d ≤ a * d
         go n d a c e h = omega arith
@@ -78,7 +81,8 @@ module _ (p : Float) (r : Probability p) where
         let q : num p * 2 ^ j * 2 ^ 1 ≡ num p * 2 ^ suc j = mul-assoc (num p) (2 ^ j) 2 ∙ ap (λ (z : ℕ). num p * z) (sym (pow-suc 2 j)) in
         record {
           value = subst (λ (z : ℕ). HasValue (mul binary64 x two) false z (den p)) q
-              (scale-up binary64 x two (num p * 2 ^ j) (den p) 1 (den-pos p) (d .double) (d .value) (refl, refl) (room (num p * 2 ^ j) (den p) (still-below e)));
+              (scale-up binary64 x two (num p * 2 ^ j) (den p) 1 (den-pos p) (d .double) (d .value) (refl, refl)
+              (room (num p * 2 ^ j) (den p) (still-below e)));
           double = mul-fits binary64 x two;
           below-two = subst (λ (z : ℕ). z < 2 * den p) q (omega (arith, still-below e));
         }
@@ -100,7 +104,8 @@ module _ (p : Float) (r : Probability p) where
   Reached n x j = Leading p (doubledTimes (doublings n x) x) (j + doublings n x)
 
   -- with one more at hand: it is made if x is below 1
-  one-more : (n : ℕ) (x : Float) (j : ℕ) → Doubled p x j → (Doubled p (mul binary64 x two) (suc j) → Reached n (mul binary64 x two) (suc j)) → (b : Bool) → lt x one ≡ b → Reached (suc n) x j
+  one-more : (n : ℕ) (x : Float) (j : ℕ) → Doubled p x j → (Doubled p (mul binary64 x two) (suc j) → Reached n (mul binary64 x two) (suc j)) →
+      (b : Bool) → lt x one ≡ b → Reached (suc n) x j
   unfolding doubledTimes
   one-more n x j d ih true e =
       let y = mul binary64 x two in
@@ -114,7 +119,8 @@ module _ (p : Float) (r : Probability p) where
   reach : (n : ℕ) (x : Float) (j : ℕ) → Doubled p x j → den p ≤ num p * 2 ^ (j + n) → Reached n x j
   unfolding doublings doubledTimes
   reach zero x j d h = record { doubled = subst (Doubled p x) (none j) d; from-one = h }
-  reach (suc n) x j d h = one-more n x j d (λ d'. reach n (mul binary64 x two) (suc j) d' (subst (λ (k : ℕ). den p ≤ num p * 2 ^ k) (over j n) h)) (lt x one) refl
+  reach (suc n) x j d h =
+      one-more n x j d (λ d'. reach n (mul binary64 x two) (suc j) d' (subst (λ (k : ℕ). den p ≤ num p * 2 ^ k) (over j n) h)) (lt x one) refl
 
   pub leads : Leading p (leading p) (wholeBits p)
   leads = subst (λ (k : ℕ). Leading p (leading p) k) (start (wholeBits p)) (reach 8 p 0 first from-least)

@@ -1,4 +1,5 @@
--- The reported entropy of a probability: exactly its units over 2 ^ 24, from 0 to 8 and no NaN, at most i for a p of 2 ^ -i at least, i at 2 ^ -i, and negative zero where it is 0. Assumes nothing.
+-- The reported entropy of a probability: exactly its units over 2 ^ 24, from 0 to 8 and no NaN, at most i for a p of 2 ^ -i at least, i at 2 ^ -i,
+-- and negative zero where it is 0. Assumes nothing.
 use mathlib.Core.Path.{_≡_, refl, sym, ap, _∙_, subst}
 use Prim.Native.Nat.{ℕ, zero, suc, _+_, _*_, _^_, _≤_, _<_}
 use native.Mathlib.Nat.{le-trans, le-of-eq, lt-of-le-of-lt, mul-one, zero-mul, mul-pos, eq-of-mul-eq-mul-right, zero-lt-suc}
@@ -88,7 +89,8 @@ module _ (x y : Float) (m i : ℕ) (w : HasValue y false i 1) where
 
 module _ (p : Float) (r : Probability p) where
   -- at most y = i bits for a p of 2 ^ -i at least
-  pub entropy-range : (i : ℕ) (y : Float) → HasValue y false i 1 → den p ≤ num p * 2 ^ i → T (le +0 (entropyOf p)) × T (le (entropyOf p) y) × (isNan (entropyOf p) ≡ false)
+  pub entropy-range : (i : ℕ) (y : Float) → HasValue y false i 1 → den p ≤ num p * 2 ^ i → T (le +0 (entropyOf p)) × T (le (entropyOf p) y) ×
+      (isNan (entropyOf p) ≡ false)
   entropy-range i y w h = to-value (entropyOf p) y (entropyUnits p) i w (entropy-value p r) (at-most-bits p r i h) (entropy-zero p)
 
   -- from 0 to 8, and no NaN
@@ -100,7 +102,9 @@ module _ (p : Float) (r : Probability p) where
   entropy-at-power i I e =
       let q : entropyUnits p ≡ i * units = exact-at-power p r i e in
       let s : eqb (i * units) 0 ≡ false = ne-eqb (i * units) 0 (λ (g : i * units ≡ 0). gone (i * units) (mul-pos I units-pos) g) in
-      over (entropyOf p) (subst (λ (b : Bool). HasValue (entropyOf p) b (i * units) units) s (subst (λ (k : ℕ). HasValue (entropyOf p) (eqb k 0) k units) q (entropy-value p r)))
+      over (entropyOf p)
+      (subst (λ (b : Bool). HasValue (entropyOf p) b (i * units) units) s
+      (subst (λ (k : ℕ). HasValue (entropyOf p) (eqb k 0) k units) q (entropy-value p r)))
     where
       gone : (n : ℕ) → 0 < n → n ≡ 0 → ⊥
       gone n h e = omega arith

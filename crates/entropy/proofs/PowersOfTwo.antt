@@ -11,7 +11,8 @@ use lib.Ieee.Positive.{num, den, den-pos}
 use Rattle.rounding.proofs.Powers.{scaled-pow, pow-inj, pow-le-inj, pow-lt-inj, pow-above}
 use Rattle.rounding.proofs.FromZero.{nonneg-of-positive}
 use Rattle.rounding.proofs.Compare.{eq-false}
-use Rattle.entropy.specs.Entropy.{one, units, wholeBits, leading, entropyUnits}
+use Rattle.rounding.specs.Doubles.{one}
+use Rattle.entropy.specs.Entropy.{units, wholeBits, leading, entropyUnits}
 use Rattle.entropy.specs.MinEntropy.{Probability}
 use Rattle.entropy.proofs.Cases.{units-at-power}
 use Rattle.entropy.proofs.Doublings.{leads, num-above, from-least}
@@ -34,7 +35,8 @@ module _ (p : Float) (r : Probability p) where
   not-one e h =
       let x = leading p in
       eq-false x one (nonneg-of-positive x (leading-positive p r)) tt e
-      (eq-of-mul-eq-mul-right (den p) (den-pos p) (num x * 1) (1 * den x) (go (num x) (den x) (num p * 2 ^ wholeBits p) (den p) (cross p r) (ap (λ (z : ℕ). z * den x) h)))
+      (eq-of-mul-eq-mul-right (den p) (den-pos p) (num x * 1) (1 * den x)
+      (go (num x) (den x) (num p * 2 ^ wholeBits p) (den p) (cross p r) (ap (λ (z : ℕ). z * den x) h)))
     where
       go : (n e a c : ℕ) → n * c ≡ a * e → a * e ≡ c * e → n * 1 * c ≡ 1 * e * c
       go n e a c h g = omega arith

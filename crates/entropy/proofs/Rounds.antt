@@ -7,7 +7,8 @@ use mathlib.Core.Bool.{Bool, true, false, cond}
 use lib.Dec.{lit≤}
 use lib.Pow.{pow-mono}
 use lib.Ieee.{Float, binary64, mul, lt, le}
-use Rattle.entropy.specs.Entropy.{one, two, half, doubledTimes, doublings, wholeBits, leading, squaredOnce, digit, squaredTimes, logDigits}
+use Rattle.rounding.specs.Doubles.{one, two, half}
+use Rattle.entropy.specs.Entropy.{doubledTimes, doublings, wholeBits, leading, squaredOnce, digit, squaredTimes, logDigits}
 
 -- ---- doublings
 pub doublings-more : (n : ℕ) (x : Float) → lt x one ≡ true → doublings (suc n) x ≡ suc (doublings n (mul binary64 x two))
@@ -108,7 +109,9 @@ digit-small x = go (le two (mul binary64 x x))
 pub digits-below : (i : ℕ) (x : Float) → logDigits i x < 2 ^ i
 unfolding logDigits
 digits-below zero x = zero-lt-suc 0
-digits-below (suc i) x = subst (λ (n : ℕ). logDigits i x * 2 + digit (squaredTimes i x) < n) (sym (pow-suc 2 i)) (more (logDigits i x) (digit (squaredTimes i x)) (2 ^ i) (digits-below i x) (digit-small (squaredTimes i x)))
+digits-below (suc i) x =
+    subst (λ (n : ℕ). logDigits i x * 2 + digit (squaredTimes i x) < n) (sym (pow-suc 2 i))
+    (more (logDigits i x) (digit (squaredTimes i x)) (2 ^ i) (digits-below i x) (digit-small (squaredTimes i x)))
   where
     more : (n d t : ℕ) → n < t → d ≤ 1 → n * 2 + d < t * 2
     more n d t h g = omega arith
@@ -132,7 +135,8 @@ module _ (start x : Float) (bits i : ℕ) (s : Squaring start x bits i) (l : i <
   next z d e g = record {
     few = omega arith;
     value = sym e ∙ ap squaredOnce (s .value) ∙ ap (λ (n : ℕ). squaredTimes n start) (one-more i);
-    digits = ap (λ (n : ℕ). n * 2 + d) (s .digits) ∙ ap (λ (n : ℕ). logDigits i start * 2 + n) (sym g ∙ ap digit (s .value)) ∙ ap (λ (n : ℕ). logDigits n start) (one-more i);
+    digits = ap (λ (n : ℕ). n * 2 + d) (s .digits) ∙ ap (λ (n : ℕ). logDigits i start * 2 + n) (sym g ∙ ap digit (s .value))
+        ∙ ap (λ (n : ℕ). logDigits n start) (one-more i);
   }
 
   pub squaring-high : le two (mul binary64 x x) ≡ true → Squaring start (mul binary64 (mul binary64 x x) half) (bits * 2 + 1) (i + 1)

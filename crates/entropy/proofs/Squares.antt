@@ -1,8 +1,10 @@
--- Squaring a float from 1 to 2 over and over, and halving it where it reaches 2: after i squarings x is near the 2 ^ i-th power of the first value, less the halvings that the digits count.
+-- Squaring a float from 1 to 2 over and over, and halving it where it reaches 2: after i squarings x is near the 2 ^ i-th power of the first value,
+-- less the halvings that the digits count.
 -- Each squaring is one rounding; a halving is exact. Assumes nothing.
 use mathlib.Core.Path.{_≡_, refl, sym, ap, _∙_, subst}
 use Prim.Native.Nat.{ℕ, zero, suc, _+_, _-_, _*_, _^_, _≤_, _<_}
-use native.Mathlib.Nat.{le-trans, le-of-eq, lt-of-lt-of-le, zero-lt-suc, add-comm, one-mul, mul-comm, mul-le-mul, mul-le-mul-right, le-of-mul-le-mul-right, mul-pos, pow-suc}
+use native.Mathlib.Nat.{le-trans, le-of-eq, lt-of-lt-of-le, zero-lt-suc, add-comm, one-mul, mul-comm, mul-le-mul, mul-le-mul-right}
+use native.Mathlib.Nat.{le-of-mul-le-mul-right, mul-pos, pow-suc}
 use native.Mathlib.Omega.{arith}
 use mathlib.Core.Bool.{Bool, true, false}
 use lib.IntN.{pos}
@@ -20,7 +22,8 @@ use Rattle.rounding.proofs.Operations.{mul-is}
 use Rattle.rounding.proofs.RelativeError.{Rounded, mul-near}
 use Rattle.rounding.proofs.Exact.{scale-down}
 use Rattle.rounding.proofs.Monotone.{round-from, round-to}
-use Rattle.entropy.specs.Entropy.{one, two, half, squaredTimes, logDigits}
+use Rattle.rounding.specs.Doubles.{one, two, half}
+use Rattle.entropy.specs.Entropy.{squaredTimes, logDigits}
 use Rattle.entropy.proofs.Rounds.{once-high, once-low, digit-high, digit-low}
 
 -- ---- of a format: 1 and 4 are its values, and the range 1 to 4 lies far from its smallest values and its top
@@ -71,8 +74,10 @@ squared f x p a b =
     let x' = nonneg-of-positive x p in
     let z' = nonneg-of-positive (mul f x x) (r .above-zero) in
     let e : mul f x x ≡ round f false (n * n) (d * d) = mul-is f x x x' x' in
-    let lo : T (le one (mul f x x)) = subst (λ (z : Float). T (le one z)) (sym e) (round-from f (n * n) (d * d) 1 1 one D (zero-lt-suc 0) (one-fits f) (refl, refl) (omega arith)) in
-    let hi : T (le (mul f x x) four) = subst (λ (z : Float). T (le z four)) (sym e) (round-to f (n * n) (d * d) 4 1 four D (zero-lt-suc 0) (four-fits f) (refl, refl) (omega arith)) in
+    let lo : T (le one (mul f x x)) =
+    subst (λ (z : Float). T (le one z)) (sym e) (round-from f (n * n) (d * d) 1 1 one D (zero-lt-suc 0) (one-fits f) (refl, refl) (omega arith)) in
+    let hi : T (le (mul f x x) four) =
+    subst (λ (z : Float). T (le z four)) (sym e) (round-to f (n * n) (d * d) 4 1 four D (zero-lt-suc 0) (four-fits f) (refl, refl) (omega arith)) in
     record {
       near = r;
       from-one = omega (arith, cross-of-le one (mul f x x) tt z' lo);
@@ -83,8 +88,10 @@ squared f x p a b =
 pub halved : (f : Format) (z : Float) → T (positive z) → T (fits f z) → den z ≤ num z → num z ≤ 4 * den z → HasValue (mul f z half) false (num z) (den z * 2)
 halved f z p t a b =
     scale-down f z half (num z) (den z) 1 (den-pos z) t (own-value z p) (refl, refl)
-    (le-trans (le-of-eq (turn (2 ^ (prec f - 1)) (den z) ∙ ap (λ (k : ℕ). k * den z) (sym (pow-add 2 (prec f - 1) 1)))) (le-trans (mul-le-mul (pow-mono (fine f)) a) (le-of-eq (mul-comm (2 ^ low f) (num z)))))
-    (subst (λ (k : ℕ). num z < k * (den z * 2)) (sym (pow-suc 2 (emax f))) (room (num z) (den z) (2 ^ emax f) b (mul-le-mul-right (den z) (four-top f)) (den-pos z)))
+    (le-trans (le-of-eq (turn (2 ^ (prec f - 1)) (den z) ∙ ap (λ (k : ℕ). k * den z) (sym (pow-add 2 (prec f - 1) 1))))
+    (le-trans (mul-le-mul (pow-mono (fine f)) a) (le-of-eq (mul-comm (2 ^ low f) (num z)))))
+    (subst (λ (k : ℕ). num z < k * (den z * 2)) (sym (pow-suc 2 (emax f)))
+    (room (num z) (den z) (2 ^ emax f) b (mul-le-mul-right (den z) (four-top f)) (den-pos z)))
   where
     turn : (u d : ℕ) → u * (d * 2) ≡ u * 2 * d
     turn u d = omega arith
@@ -117,7 +124,9 @@ power-twice : (A i : ℕ) → A ^ (2 ^ i) * A ^ (2 ^ i) ≡ A ^ (2 ^ (i + 1))
 power-twice A i = sym (ap (λ (z : ℕ). A ^ z) (two-times i) ∙ pow-add A (2 ^ i) (2 ^ i))
 
 below-twice : (C i B : ℕ) → (2 ^ B * C ^ (2 ^ i)) * (2 ^ B * C ^ (2 ^ i)) ≡ 2 ^ (B * 2) * C ^ (2 ^ (i + 1))
-below-twice C i B = turn (2 ^ B) (C ^ (2 ^ i)) ∙ ap (λ (z : ℕ). 2 ^ B * 2 ^ B * z) (power-twice C i) ∙ ap (λ (z : ℕ). z * C ^ (2 ^ (i + 1))) (sym (ap (λ (z : ℕ). 2 ^ z) (twice B) ∙ pow-add 2 B B))
+below-twice C i B =
+    turn (2 ^ B) (C ^ (2 ^ i)) ∙ ap (λ (z : ℕ). 2 ^ B * 2 ^ B * z) (power-twice C i)
+    ∙ ap (λ (z : ℕ). z * C ^ (2 ^ (i + 1))) (sym (ap (λ (z : ℕ). 2 ^ z) (twice B) ∙ pow-add 2 B B))
   where
     turn : (a c : ℕ) → (a * c) * (a * c) ≡ a * a * (c * c)
     turn a c = omega arith
@@ -253,13 +262,18 @@ module _ (x : Float) where
   unfolding squaredTimes logDigits
   once i t true e =
       let y = squaredTimes i x in
-      rw (once-high y e, digit-high y e) (subst (λ (k : ℕ). Tracks binary64 (num x) (den x) (mul binary64 (mul binary64 y y) half) k (logDigits i x * 2 + 1)) (one-more i) (next-1 binary64 (num x) (den x) (den-pos x) y i (logDigits i x) t e))
+      rw (once-high y e, digit-high y e)
+      (subst (λ (k : ℕ). Tracks binary64 (num x) (den x) (mul binary64 (mul binary64 y y) half) k (logDigits i x * 2 + 1)) (one-more i)
+      (next-1 binary64 (num x) (den x) (den-pos x) y i (logDigits i x) t e))
     where
       one-more : (i : ℕ) → i + 1 ≡ suc i
       one-more i = omega arith
   once i t false e =
       let y = squaredTimes i x in
-      rw (once-low y e, digit-low y e) (subst (λ (k : ℕ). Tracks binary64 (num x) (den x) (mul binary64 y y) k (logDigits i x * 2 + 0)) (one-more i) (subst (λ (k : ℕ). Tracks binary64 (num x) (den x) (mul binary64 y y) (i + 1) k) (none (logDigits i x * 2)) (next-0 binary64 (num x) (den x) (den-pos x) y i (logDigits i x) t e)))
+      rw (once-low y e, digit-low y e)
+      (subst (λ (k : ℕ). Tracks binary64 (num x) (den x) (mul binary64 y y) k (logDigits i x * 2 + 0)) (one-more i)
+      (subst (λ (k : ℕ). Tracks binary64 (num x) (den x) (mul binary64 y y) (i + 1) k) (none (logDigits i x * 2))
+      (next-0 binary64 (num x) (den x) (den-pos x) y i (logDigits i x) t e)))
     where
       one-more : (i : ℕ) → i + 1 ≡ suc i
       one-more i = omega arith

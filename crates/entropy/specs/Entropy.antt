@@ -1,21 +1,12 @@
 -- The min-entropy -log2 p of a probability p from 1/256 to 1, in whole units of 2 ^ -24 bit, by arithmetic on doubles alone. Definitions only.
--- p is doubled until it is 1 at least, j times; the log2 of what that gives, from 1 to 2, has a binary digit for each of 24 squarings. Two units are taken off, since the squarings round,
+-- p is doubled until it is 1 at least, j times; the log2 of what that gives, from 1 to 2, has a binary digit for each of 24 squarings. Two units are
+-- taken off, since the squarings round,
 -- unless p is a power of two, where the figure is exact. What the figure says of p is in DemandThree, and in the laws of proofs/.
 use Prim.Native.Nat.{ℕ, zero, suc, _+_, _-_, _*_, _^_}
-use mathlib.Core.Bool.{false, cond}
-use lib.IntN.{pos, negsuc}
+use mathlib.Core.Bool.{cond}
 use lib.Dec.{eqb}
-use lib.Ieee.{Float, fin, binary64, mul, round, lt, le, eq}
-
--- 1/2, 1 and 2
-abbrev pub half : Float
-half = fin false 1 (negsuc 0)
-
-abbrev pub one : Float
-one = fin false 1 (pos 0)
-
-abbrev pub two : Float
-two = fin false 1 (pos 1)
+use lib.Ieee.{Float, binary64, mul, round, lt, le, eq}
+use Rattle.rounding.specs.Doubles.{half, one, two}
 
 -- "a whole multiple of 2^-24": how many units a bit has. It is shut, so that no proof computes a power as large as b ^ units.
 unfoldable pub units : ℕ

@@ -1,16 +1,12 @@
 -- What `min_entropy` answers: "the logarithm behind min-entropy takes 1/256..1", else number 5. Definitions only.
-use mathlib.Core.Bool.{Bool, false, _&&_, cond}
-use lib.IntN.{negsuc}
+use mathlib.Core.Bool.{Bool, _&&_, cond}
 use lib.Dec.{T}
-use lib.Ieee.{Float, fin, binary64, fits, le}
+use lib.Ieee.{Float, binary64, fits, le}
+use Rattle.rounding.specs.Doubles.{one, least}
 use Rattle.answer.specs.Numbers.{done, outOfRange}
 use Rattle.answer.specs.Refused.{refusedValue}
 use Rattle.answer.specs.declared.Value.{Value}
-use Rattle.entropy.specs.Entropy.{one, entropyOf}
-
--- 1/256
-abbrev pub least : Float
-least = fin false 1 (negsuc 7)
+use Rattle.entropy.specs.Entropy.{entropyOf}
 
 -- every comparison with a NaN is false, so a NaN is out of range
 abbrev pub inRange : Float → Bool

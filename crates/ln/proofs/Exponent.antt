@@ -17,7 +17,9 @@ sub-is : (a b : ℕ) → subℕ a b ≡ minus a b
 sub-is a b = go (ltb a b) (ltb→lt a b) (nltb→le a b)
   where
     go : (t : Bool) → (T t → a < b) → (T (not t) → b ≤ a) → cond t (negsuc (b - suc a)) (pos (a - b)) ≡ cond (leb b a) (pos (a - b)) (negsuc (b - suc a))
-    go true y n = sym (ap (λ (u : Bool). cond u (pos (a - b)) (negsuc (b - suc a))) (is-false (leb b a) (not-T (leb b a) (λ (u : T (leb b a)). not-le-of-lt (y tt) (leb→le b a u)))))
+    go true y n =
+        sym (ap (λ (u : Bool). cond u (pos (a - b)) (negsuc (b - suc a)))
+        (is-false (leb b a) (not-T (leb b a) (λ (u : T (leb b a)). not-le-of-lt (y tt) (leb→le b a u)))))
     go false y n = sym (ap (λ (u : Bool). cond u (pos (a - b)) (negsuc (b - suc a))) (is-true (leb b a) (le→leb b a (n tt))))
 
 pub difference : (n : ℕ) → n ≤ 3000 → toZ w64 n -ℤ pos 1074 ≡ minus n 1074

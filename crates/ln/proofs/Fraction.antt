@@ -15,7 +15,8 @@ use Rattle.sqrt.proofs.Patterns.{toBits-value, bits-of, value-no-nan}
 
 -- a number of 53 digits with such a field is far below the largest double
 pub small : (q k : ℕ) → q < 2 ^ 53 → k ≤ 2000 → q * 2 ^ k < 2 ^ 2098
-small q k hi few = lt-of-le-of-lt (mul-le-mul (le-of-lt hi) (pow-mono few)) (subst (λ (x : ℕ). x < 2 ^ 2098) (pow-add 2 53 2000) (pow-lt {i = 2053} {j = 2098} (omega arith)))
+small q k hi few =
+    lt-of-le-of-lt (mul-le-mul (le-of-lt hi) (pow-mono few)) (subst (λ (x : ℕ). x < 2 ^ 2098) (pow-add 2 53 2000) (pow-lt {i = 2053} {j = 2098} (omega arith)))
 
 -- q / 2 ^ j, for a q of 53 digits and a field k with k + j = 1074
 module _ (q k j : ℕ) (lo : 2 ^ 52 ≤ q) (hi : q < 2 ^ 53) (few : k ≤ 2000) (e : k + j ≡ 1074) where
@@ -33,7 +34,8 @@ module _ (q k j : ℕ) (lo : 2 ^ 52 ≤ q) (hi : q < 2 ^ 53) (few : k ≤ 2000) 
   -- the double with the digits of q and the field k, to which the leading one of q adds one
   pub fraction-is : ofBits binary64 (q + k * 2 ^ 52) ≡ round binary64 false q (2 ^ j)
   fraction-is =
-      ap (ofBits binary64) (add-comm q (k * 2 ^ 52) ∙ sym (bits-of q k lo (le-of-lt hi)) ∙ sym (toBits-value binary64 (round binary64 false q (2 ^ j)) (q * 2 ^ k) value))
+      ap (ofBits binary64)
+      (add-comm q (k * 2 ^ 52) ∙ sym (bits-of q k lo (le-of-lt hi)) ∙ sym (toBits-value binary64 (round binary64 false q (2 ^ j)) (q * 2 ^ k) value))
       ∙ ofBits-toBits binary64 (round binary64 false q (2 ^ j)) (round-fits binary64 false q (2 ^ j))
 
   pub fraction-no-nan : T (not (nanBits binary64 (q + k * 2 ^ 52)))

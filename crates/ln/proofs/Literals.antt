@@ -2,7 +2,7 @@
 use mathlib.Core.Path.{_≡_, refl}
 use mathlib.Core.Bool.{true}
 use lib.Ieee.{inf, binary64, ofBits}
-use Rattle.ln.specs.Ln.{half, one, two}
+use Rattle.rounding.specs.Doubles.{half, one, two}
 
 pub half-is : ofBits binary64 0x3fe0_0000_0000_0000 ≡ half
 unfolding ofBits

@@ -2,7 +2,9 @@
 -- `reduced-is`: the logarithm of n smallest doubles by the significand q of n and the place of its leading one. Assumes nothing.
 use mathlib.Core.Path.{_≡_, refl, sym, ap, _∙_, subst}
 use Prim.Native.Nat.{ℕ, suc, _+_, _-_, _*_, _/_, _%_, _^_, _≤_, _<_}
-use native.Mathlib.Nat.{le-trans, le-of-eq, lt-of-lt-of-le, lt-of-le-of-lt, lt-of-not-le, lt-irrefl, not-le-of-lt, mul-comm, mul-assoc, mul-left-comm, mul-right-comm, mul-le-mul, mul-le-mul-right, mul-lt-mul-of-pos-right, le-of-mul-le-mul-right, lt-of-mul-lt-mul-right, pow-succ'}
+use native.Mathlib.Nat.{le-trans, le-of-eq, lt-of-lt-of-le, lt-of-le-of-lt, lt-of-not-le, lt-irrefl, not-le-of-lt, mul-comm, mul-assoc}
+use native.Mathlib.Nat.{mul-left-comm, mul-right-comm, mul-le-mul, mul-le-mul-right, mul-lt-mul-of-pos-right, le-of-mul-le-mul-right}
+use native.Mathlib.Nat.{lt-of-mul-lt-mul-right, pow-succ'}
 use native.Mathlib.Omega.{arith}
 use mathlib.Core.Bool.{Bool, true, false, not, cond}
 use lib.Dec.{T, eqb, eqb→eq, ltb, ltb→lt, lt→ltb, nltb→le, not-T, lit<, lit≤}
@@ -13,12 +15,13 @@ use lib.Ieee.Digits.{size-lt, size-reaches}
 use lib.Ieee.Exact.{HasValue, round-exact}
 use lib.Ieee.Scale.{round-same}
 use Rattle.sqrt.proofs.Roots.{four-pow, four-pos, sq-pow, sq-lt}
-use Rattle.sqrt.specs.Steps.{unitsOf}
+use Rattle.sqrt.specs.inner.Steps.{unitsOf}
 use Rattle.sqrt.proofs.Powers.{joined}
 use Rattle.sqrt.proofs.Patterns.{units-low, units-high}
 use Rattle.sqrt.proofs.Shift.{size-exact, shifted-fraction}
-use Rattle.ln.specs.Ln.{_⊖_, one, series, places, lnUnits}
-use Rattle.ln.specs.Steps.{lnAt}
+use Rattle.rounding.specs.Doubles.{_⊖_, one}
+use Rattle.ln.specs.Ln.{series, places, lnUnits}
+use Rattle.ln.specs.inner.Steps.{lnAt}
 use Rattle.ln.proofs.Fraction.{small}
 
 -- ---- √½ ≤ n / 2 ^ j < √2
@@ -54,7 +57,8 @@ same-bool false false f g = refl
 -- a / x and b / y are the same fraction, and so is below c where the other is
 same-test : (a b c x y : ℕ) → 0 < x → 0 < y → a * y ≡ b * x → ltb a (c * x) ≡ ltb b (c * y)
 same-test a b c x y X Y e =
-    same-bool (ltb a (c * x)) (ltb b (c * y)) (λ t. lt→ltb b (c * y) (to a b x y X Y e (ltb→lt a (c * x) t))) (λ t. lt→ltb a (c * x) (to b a y x Y X (sym e) (ltb→lt b (c * y) t)))
+    same-bool (ltb a (c * x)) (ltb b (c * y)) (λ t. lt→ltb b (c * y) (to a b x y X Y e (ltb→lt a (c * x) t)))
+    (λ t. lt→ltb a (c * x) (to b a y x Y X (sym e) (ltb→lt b (c * y) t)))
   where
     swap : (c x y : ℕ) → c * x * y ≡ c * y * x
     swap c x y = mul-assoc c x y ∙ ap (λ (z : ℕ). c * z) (mul-comm x y) ∙ sym (mul-assoc c y x)
@@ -67,7 +71,8 @@ module _ (n q place : ℕ) (lo : 2 ^ 52 ≤ q) (hi : q < 2 ^ 53) (e : n * 2 ^ 52
   leading : size n ≡ suc place
   leading =
       size-exact place n
-      (le-of-mul-le-mul-right (le-trans (le-of-eq (mul-comm (2 ^ place) (2 ^ 52))) (le-trans (mul-le-mul-right (2 ^ place) lo) (le-of-eq (sym e)))) (pow-pos 52))
+      (le-of-mul-le-mul-right (le-trans (le-of-eq (mul-comm (2 ^ place) (2 ^ 52))) (le-trans (mul-le-mul-right (2 ^ place) lo) (le-of-eq (sym e))))
+      (pow-pos 52))
       (lt-of-mul-lt-mul-right (2 ^ 52) (lt-of-le-of-lt (le-of-eq e) (lt-of-lt-of-le (mul-lt-mul-of-pos-right hi (pow-pos place)) (le-of-eq (top place)))))
     where
       top : (d : ℕ) → 2 ^ 53 * 2 ^ d ≡ 2 ^ suc d * 2 ^ 52
@@ -81,7 +86,8 @@ module _ (n q place : ℕ) (lo : 2 ^ 52 ≤ q) (hi : q < 2 ^ 53) (e : n * 2 ^ 52
 
   doubled : n * 2 ^ 53 ≡ q * 2 ^ suc place
   doubled =
-      ap (λ (x : ℕ). n * x) (pow-succ' 2 52) ∙ mul-left-comm n 2 (2 ^ 52) ∙ ap (λ (x : ℕ). 2 * x) e ∙ mul-left-comm 2 q (2 ^ place) ∙ ap (λ (x : ℕ). q * x) (sym (pow-succ' 2 place))
+      ap (λ (x : ℕ). n * x) (pow-succ' 2 52) ∙ mul-left-comm n 2 (2 ^ 52) ∙ ap (λ (x : ℕ). 2 * x) e ∙ mul-left-comm 2 q (2 ^ place)
+      ∙ ap (λ (x : ℕ). q * x) (sym (pow-succ' 2 place))
 
   pub reduced-is : lnUnits n ≡ lnAt q place
   unfolding lnUnits places lnAt
@@ -97,9 +103,12 @@ module _ (n q place : ℕ) (lo : 2 ^ 52 ≤ q) (hi : q < 2 ^ 53) (e : n * 2 ^ 52
       less d = omega arith
 
       go : (t : Bool) → at (cond t place (suc place))
-          ≡ cond t (series (ofInt binary64 (minus place 1074)) (round binary64 false q (2 ^ 52) ⊖ one)) (series (ofInt binary64 (minus (suc place) 1074)) (round binary64 false q (2 ^ 53) ⊖ one))
-      go true = ap (λ (v : Float). series (ofInt binary64 (minus place 1074)) (v ⊖ one)) (round-same binary64 false n (2 ^ place) q (2 ^ 52) (pow-pos place) (pow-pos 52) e)
-      go false = ap (λ (v : Float). series (ofInt binary64 (minus (suc place) 1074)) (v ⊖ one)) (round-same binary64 false n (2 ^ suc place) q (2 ^ 53) (pow-pos (suc place)) (pow-pos 53) doubled)
+          ≡ cond t (series (ofInt binary64 (minus place 1074)) (round binary64 false q (2 ^ 52) ⊖ one))
+          (series (ofInt binary64 (minus (suc place) 1074)) (round binary64 false q (2 ^ 53) ⊖ one))
+      go true = ap (λ (v : Float). series (ofInt binary64 (minus place 1074)) (v ⊖ one))
+          (round-same binary64 false n (2 ^ place) q (2 ^ 52) (pow-pos place) (pow-pos 52) e)
+      go false = ap (λ (v : Float). series (ofInt binary64 (minus (suc place) 1074)) (v ⊖ one))
+          (round-same binary64 false n (2 ^ suc place) q (2 ^ 53) (pow-pos (suc place)) (pow-pos 53) doubled)
 
   -- n / 2 ^ j is not rounded, where n * 2 ^ a is q * 2 ^ j
   exact-at : (a j i : ℕ) → a + i ≡ 1074 → i ≤ 2000 → n * 2 ^ a ≡ q * 2 ^ j → HasValue (round binary64 false n (2 ^ j)) false n (2 ^ j)
@@ -156,4 +165,5 @@ under-root q h =
 pub over-root : (q : ℕ) → 6369051672525773 ≤ q → ltb (q * q) (2 * 4 ^ 52) ≡ false
 over-root q h =
     is-false (ltb (q * q) (2 * 4 ^ 52))
-    (not-T (ltb (q * q) (2 * 4 ^ 52)) (λ (u : T (ltb (q * q) (2 * 4 ^ 52))). not-le-of-lt (lt-of-lt-of-le (ltb→lt (q * q) (2 * 4 ^ 52) u) (lit≤ tt)) (mul-le-mul h h)))
+    (not-T (ltb (q * q) (2 * 4 ^ 52))
+    (λ (u : T (ltb (q * q) (2 * 4 ^ 52))). not-le-of-lt (lt-of-lt-of-le (ltb→lt (q * q) (2 * 4 ^ 52) u) (lit≤ tt)) (mul-le-mul h h)))

@@ -8,7 +8,7 @@ use lib.IntN.{ℤ}
 use lib.Ieee.{Float, nan, inf, fin, binary64, down, ofBits, eq, lt}
 use lib.Ieee.Fits.{down-pos}
 use lib.Ieee.Exact.{HasValue}
-use Rattle.sqrt.specs.Steps.{unitsOf}
+use Rattle.sqrt.specs.inner.Steps.{unitsOf}
 use Rattle.sqrt.proofs.AboveZero.{naught, zero-only, negative-only, some-units}
 use Rattle.sqrt.proofs.Patterns.{value-of, units-pos}
 use Rattle.ln.specs.Ln.{lnUnits, lnOf}

@@ -2,36 +2,9 @@
 -- x = 2 ^ k * (1 + f) with √½ ≤ 1 + f < √2, and ln x = k * ln 2 + ln (1 + f). Each sum, difference, product and quotient is rounded. Definitions only.
 use Prim.Native.Nat.{ℕ, zero, suc, _-_, _*_, _/_, _^_}
 use mathlib.Core.Bool.{true, false, cond}
-use lib.IntN.{pos, negsuc}
 use lib.Dec.{ltb}
-use lib.Ieee.{Float, nan, inf, fin, binary64, up, down, minus, size, round, ofInt, ofBits, add, sub, mul, div}
-
-infixl 40 _⊕_
-infixl 40 _⊖_
-infixl 50 _⊗_
-infixl 50 _⊘_
--- +, -, *, / of doubles
-abbrev pub _⊕_ : Float → Float → Float
-x ⊕ y = add binary64 x y
-
-abbrev pub _⊖_ : Float → Float → Float
-x ⊖ y = sub binary64 x y
-
-abbrev pub _⊗_ : Float → Float → Float
-x ⊗ y = mul binary64 x y
-
-abbrev pub _⊘_ : Float → Float → Float
-x ⊘ y = div binary64 x y
-
--- 0.5, 1.0 and 2.0
-abbrev pub half : Float
-half = fin false 1 (negsuc 0)
-
-abbrev pub one : Float
-one = fin false 1 (pos 0)
-
-abbrev pub two : Float
-two = fin false 1 (pos 1)
+use lib.Ieee.{Float, nan, inf, fin, binary64, up, down, minus, size, round, ofInt, ofBits}
+use Rattle.rounding.specs.Doubles.{_⊕_, _⊖_, _⊗_, _⊘_, half, one, two}
 
 -- ---- ln (1 + f)
 

@@ -6,9 +6,9 @@
 ghost use mathlib.Core.Path.{_≡_};
 ghost use Prim.Native.Nat.{_+_, _*_, _^_, _≤_, _<_};
 ghost use lib.Ieee.{binary64, ofInt, minus};
-ghost use Rattle.sqrt.specs.Steps.{unitsOf};
+ghost use Rattle.sqrt.specs.inner.Steps.{unitsOf};
 ghost use Rattle.ln.specs.Ln as Ln;
-ghost use Rattle.ln.specs.Steps.{lnAt};
+ghost use Rattle.ln.specs.inner.Steps.{lnAt};
 
 // The coefficients of fdlibm's polynomial.
 const LG1: f64 = 6.666666666666735130e-01;

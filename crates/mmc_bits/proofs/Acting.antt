@@ -12,11 +12,21 @@ use Rattle.capture.specs.Limit.{symbolLimit}
 use Rattle.capture.specs.Bits.{table}
 use Rattle.capture.proofs.Walking.{quotient-is, remainder-is}
 use Rattle.mmc_bits.specs.Levels.{levels, cap}
-use Rattle.mmc_bits.specs.Counters.{before, context, pair, occurs, distinct, counter}
-use Rattle.mmc_bits.specs.Steps.{Bits}
+use Rattle.mmc_bits.specs.Counters.{before, context, pair, occurs, counter}
+use Rattle.mmc_bits.specs.inner.Steps.{Bits, distinct}
 use Rattle.mmc_bits.proofs.Cases.{tested}
 use Rattle.capture.proofs.Bitstring.{table-length, table-at}
-use Rattle.mmc_bits.proofs.Counting.{occurs-same, occurs-other, occurs-early, occurs-more, distinct-new, distinct-old, distinct-early, counter-none, counter-full}
+use Rattle.mmc_bits.proofs.Counting.{
+  occurs-same,
+  occurs-other,
+  occurs-early,
+  occurs-more,
+  distinct-new,
+  distinct-old,
+  distinct-early,
+  counter-none,
+  counter-full,
+}
 use Rattle.mmc_bits.proofs.Room.{seen}
 
 -- ---- a level has as many distinct pairs as there are pairs that occurred
@@ -55,7 +65,8 @@ module _ (L : ℕ) (b : List ℕ) where
   seen-le n (suc i) = tested (leb L i)
       (λ t. tested (eqb (occurs L b (pair L b i) i) 0)
       (λ u. omega (arith, seen-le n i, seen-step i n, distinct-new L b i (leb-true _ _ t) (eqb-true _ _ u)))
-      (λ u. let o : occurs L b (pair L b i) i ≡ 0 → ⊥ = eqb-false _ _ u in omega (arith, seen-le n i, seen-same i (old-same i (omega arith)) n, distinct-old L b i o)))
+      (λ u. let o : occurs L b (pair L b i) i ≡ 0 → ⊥ = eqb-false _ _ u in
+      omega (arith, seen-le n i, seen-same i (old-same i (omega arith)) n, distinct-old L b i o)))
       (λ t. let g : i < L = leb-false _ _ t in
       omega (
         arith,
@@ -84,7 +95,13 @@ module _ (L : ℕ) (b : List ℕ) where
 
   -- place n brings the first pair that the cap keeps out
   full-here : (cap n : ℕ) → distinct L b n ≤ cap → cap < distinct L b (suc n) → Uncounted cap (suc n)
-  full-here cap n l h = record { at = n; within = omega arith; once = omega (arith, occurs-same L b (pair L b n) n late refl, new); none = counter-full cap L b n late (counter-none cap L b (pair L b n) n new) full }
+  full-here cap n l h =
+      record {
+        at = n;
+        within = omega arith;
+        once = omega (arith, occurs-same L b (pair L b n) n late refl, new);
+        none = counter-full cap L b n late (counter-none cap L b (pair L b n) n new) full;
+      }
     where
       late : L ≤ n
       late = tested (leb L n) (λ t. leb-true _ _ t) (λ t. absurd (omega (arith, distinct-early L b (suc n) (leb-false _ _ t))))
@@ -161,7 +178,10 @@ pair-spelt L k h =
     let z : suc L - suc L ≡ 0 = omega arith in
     let c : before (spelt (suc L)) (k * suc L + L) % 2 ^ L ≡ k / 2 = spelt-some (suc L) k L h (omega arith) ∙ ap (λ (n : ℕ). k / 2 ^ n) e in
     let d : getD (spelt (suc L)) (k * suc L + L) 0 ≡ k % 2 =
-    getD-spelt (suc L) (k * suc L + L) (inside (suc L) k L h (omega arith)) ∙ digit-of (suc L) k L (omega arith) ∙ ap (λ (n : ℕ). k / 2 ^ n % 2) z ∙ ap (λ (n : ℕ). n % 2) (div-one k) in
+    getD-spelt (suc L) (k * suc L + L) (inside (suc L) k L h (omega arith))
+    ∙ digit-of (suc L) k L (omega arith)
+    ∙ ap (λ (n : ℕ). k / 2 ^ n % 2) z
+    ∙ ap (λ (n : ℕ). n % 2) (div-one k) in
     rw (c, d) (div-add-mod' k 2)
 
 -- and every pair of level L occurs

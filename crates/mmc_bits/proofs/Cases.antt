@@ -1,16 +1,15 @@
 -- The cases of the definitions, one law for each. Assumes nothing.
 use Prim.Native.Nat.{ℕ, zero, suc, _+_, _≤_, _<_}
 use mathlib.Core.Path.{_≡_, refl}
-use mathlib.Core.Bool.{Bool, true, false, cond}
+use mathlib.Core.Bool.{Bool, true, false}
 use mathlib.Core.List.{List}
 use native.Mathlib.Omega.{arith}
 use native.Mathlib.Nat.{add-zero}
 use lib.ListN.{getD}
-use lib.Dec.{ltb, eqb}
 use borrow.Author.Tests.{lt-ltb, le-ltb, eq-eqb, ne-eqb}
-use Rattle.race.specs.Held.{silence}
+use Rattle.race.specs.inner.Held.{silence}
 use Rattle.mmc_bits.specs.Guesses.{verdict}
-use Rattle.mmc_bits.specs.Steps.{spoken, heeded, bumped, kept}
+use Rattle.mmc_bits.specs.inner.Steps.{spoken, heeded, bumped, kept}
 
 -- a test with its equation
 pub tested : {A : Type 0} (t : Bool) → (t ≡ true → A) → (t ≡ false → A) → A
@@ -22,16 +21,15 @@ module _ (z o : ℕ) where
   unfolding verdict
   verdict-none e = rw (eq-eqb (z + o) 0 e) refl
 
-  pub verdict-some : (z + o ≡ 0 → ⊥) → (r : ℕ) → r ≡ cond (ltb o z) 0 1 → r ≡ spoken (verdict z o)
+  pub verdict-zero : (z + o ≡ 0 → ⊥) → o < z → 0 ≡ spoken (verdict z o)
   unfolding verdict
-  verdict-some n r e = rw (ne-eqb (z + o) 0 n) e
+  verdict-zero n l = rw (ne-eqb (z + o) 0 n, lt-ltb o z l) refl
+
+  pub verdict-one : (z + o ≡ 0 → ⊥) → z ≤ o → 1 ≡ spoken (verdict z o)
+  unfolding verdict
+  verdict-one n l = rw (ne-eqb (z + o) 0 n, le-ltb o z l) refl
 
 -- the counter of a bit, of the two that stand at `at`
-pub of-bit-is : (xs : List ℕ) (at bit : ℕ) → bit < 2 → cond (eqb bit 0) (getD xs at 0) (getD xs (at + 1) 0) ≡ getD xs (at + bit) 0
-of-bit-is xs at zero h = rw (add-zero at) refl
-of-bit-is xs at (suc zero) h = refl
-of-bit-is xs at (suc (suc bit)) h = absurd (omega arith)
-
 pub of-bit-fits : (xs : List ℕ) (at bit n : ℕ) → bit < 2 → getD xs at 0 + getD xs (at + 1) 0 + 1 < n → getD xs (at + bit) 0 + 1 < n
 of-bit-fits xs at zero n h l = rw (add-zero at) (omega arith)
 of-bit-fits xs at (suc zero) n h l = omega arith

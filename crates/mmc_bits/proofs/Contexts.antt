@@ -12,7 +12,7 @@ use lib.Dec.{ltb}
 use borrow.Author.Tests.{ltb-true, ltb-false}
 use Rattle.mmc_bits.specs.Levels.{levels}
 use Rattle.mmc_bits.specs.Counters.{before, context}
-use Rattle.mmc_bits.specs.Steps.{Bits}
+use Rattle.mmc_bits.specs.inner.Steps.{Bits}
 use Rattle.mmc_bits.proofs.Cases.{tested}
 
 pub context-none : (b : List ℕ) → 0 ≡ context levels b 0

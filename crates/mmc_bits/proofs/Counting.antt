@@ -6,7 +6,9 @@ use mathlib.Core.List.{List}
 use native.Mathlib.Omega.{arith}
 use lib.Dec.{leb, ltb, eqb}
 use borrow.Author.Tests.{lt-ltb, le-ltb, le-leb, lt-leb, eq-eqb, ne-eqb, eqb-true, eqb-false, ltb-true, ltb-false, leb-true, leb-false}
-use Rattle.mmc_bits.specs.Counters.{pair, one, places, occurs, fresh, distinct, ahead, counter}
+use Rattle.capture.specs.Bits.{one}
+use Rattle.mmc_bits.specs.inner.Steps.{distinct}
+use Rattle.mmc_bits.specs.Counters.{pair, places, occurs, fresh, ahead, counter}
 use Rattle.mmc_bits.proofs.Cases.{tested}
 
 pub places-in : (p : ℕ → Bool) (from i : ℕ) → from ≤ i → p i ≡ true → places p from (suc i) ≡ suc (places p from i)
@@ -197,7 +199,8 @@ module _ (cap L : ℕ) (b : List ℕ) where
       where
         far : cap ≤ ahead L b (pair L b i) i
         far = tested (ltb (ahead L b (pair L b i) i) cap)
-            (λ t. let o : occurs L b (pair L b i) i ≡ 0 = sym (counter-low (pair L b i) i (ltb-true _ _ t)) ∙ e in omega (arith, ahead-all L b (pair L b i) i o))
+            (λ t. let o : occurs L b (pair L b i) i ≡ 0 = sym (counter-low (pair L b i) i (ltb-true _ _ t)) ∙ e in
+            omega (arith, ahead-all L b (pair L b i) i o))
             (λ t. ltb-false _ _ t)
 
     -- the number of pairs that have a counter, at most 100,000

@@ -10,11 +10,11 @@ use lib.Seq.{drop-at, drop-drop}
 use lib.Dec.{ltb, eqb, leb}
 use borrow.Author.Tests.{lt-ltb, leb-true, leb-false}
 use Rattle.race.specs.Race.{Guess, silent, says}
-use Rattle.race.specs.Held.{silence, heard, heardFrom}
+use Rattle.race.specs.inner.Held.{silence, heard, heardFrom}
 use Rattle.capture.specs.Bits.{table}
 use Rattle.mmc_bits.specs.Counters.{context}
 use Rattle.mmc_bits.specs.Guesses.{verdict, own, behind, guess}
-use Rattle.mmc_bits.specs.Steps.{spoken, guesses, below, heeded}
+use Rattle.mmc_bits.specs.inner.Steps.{spoken, guesses, below, heeded}
 use Rattle.mmc_bits.proofs.Cases.{tested}
 use Rattle.mmc_bits.proofs.Counting.{occurs-early, counter-none}
 use Rattle.capture.proofs.Bitstring.{table-length, table-at}
@@ -75,7 +75,8 @@ heeded-behind (says x) h (some p) = rw (ne x p) refl
     ne (suc zero) p = refl
     ne (suc (suc x)) p = absurd (omega arith)
 
-pub guess-heeds : (cap : ℕ) (b : List ℕ) (i l r u v : ℕ) → r ≡ heeded u v → u ≡ spoken (below cap b i l) → v ≡ spoken (own cap (suc l) b i) → r ≡ spoken (guess cap b i l)
+pub guess-heeds : (cap : ℕ) (b : List ℕ) (i l r u v : ℕ) → r ≡ heeded u v → u ≡ spoken (below cap b i l)
+    → v ≡ spoken (own cap (suc l) b i) → r ≡ spoken (guess cap b i l)
 guess-heeds cap b i l r u v e f g =
     e ∙ rw (f, g) (heeded-behind (below cap b i l) (own cap (suc l) b i) (below-bit cap b i l) ∙ ap spoken (sym (guess-next cap b i l)))
 
@@ -120,7 +121,8 @@ module _ (cap n : ℕ) (b : List ℕ) (i : ℕ) where
       rw (table-at n (λ e. spoken (guess cap b i e)) d h) (heard-spoken (guess cap b i d) (guess-bit cap b i d))
 
   -- one more is written
-  pub guesses-more : (gs : List ℕ) (r : ℕ) → n < length gs → r ≡ spoken (guess cap b i n) → set (guesses cap n b i ++ drop n gs) n r ≡ guesses cap (suc n) b i ++ drop (suc n) gs
+  pub guesses-more : (gs : List ℕ) (r : ℕ) → n < length gs → r ≡ spoken (guess cap b i n)
+      → set (guesses cap n b i ++ drop n gs) n r ≡ guesses cap (suc n) b i ++ drop (suc n) gs
   unfolding guesses
   guesses-more gs r h e = rw e (table-fill n (λ d. spoken (guess cap b i d)) gs h)
 

@@ -7,8 +7,6 @@ pub mod Guessing
 pub mod Contexts
 pub mod Stepping
 pub mod Placing
-pub mod Running
-pub mod Counts
 pub mod Narrow
 pub mod Acting
 pub mod Examples

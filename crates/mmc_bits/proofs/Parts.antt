@@ -5,21 +5,31 @@ use mathlib.Core.List.{List, _++_, append-assoc, append-nil}
 use native.Mathlib.Omega.{arith}
 use native.Mathlib.Nat.{zero-add, suc-add, add-suc}
 use native.Mathlib.Numerals.{add-one}
-use lib.ListN.{getD, set, length, take, drop, length-append}
+use lib.ListN.{getD, set, length, take, drop, replicate, length-append, replicate-append-replicate}
 use lib.Seq.{take-at, drop-at}
 use lib.Pow.{pow-pos}
 use lib.Dec.{ltb, eqb}
 use borrow.Rule.Slice.PartMut.{putMid}
 use borrow.Author.Tests.{eqb-true, eqb-false, ltb-true, ltb-false}
-use Rattle.capture.specs.Bits.{table}
-use Rattle.mmc_bits.specs.Counters.{pair, distinct, counter}
+use Rattle.mmc_bits.specs.Counters.{pair, counter}
 use Rattle.mmc_bits.specs.Space.{part, span, size}
-use Rattle.mmc_bits.specs.Steps.{Bits, bumped, kept, mixed}
+use Rattle.mmc_bits.specs.inner.Steps.{Bits, bumped, kept, mixed, distinct}
 use Rattle.mmc_bits.proofs.Cases.{tested, bumped-first, bumped-full, bumped-again, kept-first, kept-full, kept-again}
-use Rattle.mmc_bits.proofs.Counting.{occurs-same, occurs-early, counter-none, counter-other, counter-again, counter-first, counter-full, stored-again, stored-first, distinct-more}
+use Rattle.mmc_bits.proofs.Counting.{
+  occurs-same,
+  occurs-early,
+  counter-none,
+  counter-other,
+  counter-again,
+  counter-first,
+  counter-full,
+  stored-again,
+  stored-first,
+  distinct-more,
+}
 use Rattle.mmc_bits.proofs.Room.{pair-lt, plain-below}
 use Rattle.capture.proofs.Bitstring.{table-length, table-at}
-use Rattle.mmc_bits.proofs.Tables.{table-same, table-set, table-add}
+use Rattle.mmc_bits.proofs.Tables.{table-same, table-set, table-zeros}
 
 -- ---- one level
 
@@ -43,9 +53,10 @@ module _ (cap L : ℕ) (b : List ℕ) where
   part-late i h = table-same (2 ^ suc L) _ _
       (λ k. counter-none cap L b k i (occurs-early L b k i (omega arith)) ∙ sym (counter-none cap L b k (suc i) (occurs-early L b k (suc i) h)))
 
-  part-zero : part cap L b 0 ≡ table (2 ^ suc L) (λ _. 0)
+  part-zero : part cap L b 0 ≡ replicate (2 ^ suc L) 0
   unfolding part
-  part-zero = table-same (2 ^ suc L) _ _ (λ k. counter-none cap L b k 0 (occurs-early L b k 0 (omega arith)))
+  part-zero =
+      table-same (2 ^ suc L) _ (λ _. 0) (λ k. counter-none cap L b k 0 (occurs-early L b k 0 (omega arith))) ∙ table-zeros (2 ^ suc L)
 
   module _ (i : ℕ) (bs : Bits b) (r : L ≤ i) where
     -- where the cap does not act
@@ -82,7 +93,8 @@ module _ (cap L : ℕ) (b : List ℕ) where
         (λ t. let z : m ≡ 0 → ⊥ = eqb-false _ _ t in
         sym (kept-again cap m n z) ∙ f ∙ ap (λ (d : ℕ). min d cap) (sym (stored-again cap L b i r (omega arith))))
 
-    pub part-last : (n : ℕ) → n ≡ min (distinct L b i) cap → set (part cap L b i) (pair L b i) (bumped cap (getD (part cap L b i) (pair L b i) 0) n) ≡ part cap L b (suc i)
+    pub part-last : (n : ℕ) → n ≡ min (distinct L b i) cap
+        → set (part cap L b i) (pair L b i) (bumped cap (getD (part cap L b i) (pair L b i) 0) n) ≡ part cap L b (suc i)
     part-last n f = part-set i _ (bumped-right _ n (getD-part i (pair L b i) (pair-lt L b bs i)) f)
 
     pub kept-last : (n : ℕ) → n ≡ min (distinct L b i) cap → kept cap (getD (part cap L b i) (pair L b i) 0) n ≡ min (distinct L b (suc i)) cap
@@ -140,22 +152,20 @@ module _ (cap : ℕ) where
       ∙ span-join m (suc l) b i
       ∙ ap (λ (n : ℕ). span cap 1 n b i) (add-suc m l ∙ sym (suc-add m l))
 
-  span-start : (b : List ℕ) → span cap 1 0 b 0 ≡ table 0 (λ _. 0)
-  unfolding span table
+  span-start : (b : List ℕ) → span cap 1 0 b 0 ≡ replicate 0 0
+  unfolding span
   span-start b = refl
 
-  span-none : (n : ℕ) (b : List ℕ) → span cap 1 n b 0 ≡ table (2 ^ suc (suc n) - 4) (λ _. 0)
+  span-none : (n : ℕ) (b : List ℕ) → span cap 1 n b 0 ≡ replicate (2 ^ suc (suc n) - 4) 0
   span-none zero b = span-start b
   span-none (suc n) b =
-      let e : 2 ^ suc (suc n) + (2 ^ suc (suc n) - 4) ≡ 2 ^ suc (suc (suc n)) - 4 = omega (arith, pow-pos n) in
-      span-more n b 0
-      ∙ rw (span-none n b, part-zero cap (suc n) b)
-      (table-add (2 ^ suc (suc n) - 4) (2 ^ suc (suc n)) ∙ ap (λ (m : ℕ). table m (λ _. 0)) e)
+      let e : 2 ^ suc (suc n) - 4 + 2 ^ suc (suc n) ≡ 2 ^ suc (suc (suc n)) - 4 = omega (arith, pow-pos n) in
+      rw (span-more n b 0, span-none n b, part-zero cap (suc n) b, ← e) (replicate-append-replicate (2 ^ suc (suc n) - 4) (2 ^ suc (suc n)) 0)
 
   -- before place 0 all counters are 0
-  pub span-cleared : (n : ℕ) (b rest s : List ℕ) → s ≡ table (size n) (λ _. 0) ++ rest → s ≡ span cap 1 n b 0 ++ rest
+  pub span-cleared : (n : ℕ) (b : List ℕ) → span cap 1 n b 0 ≡ replicate (size n) 0
   unfolding size
-  span-cleared n b rest s m = m ∙ ap (λ (t : List ℕ). t ++ rest) (sym (span-none n b))
+  span-cleared = span-none
 
   -- what lies behind the levels
   pub behind-levels : (n : ℕ) (b : List ℕ) (i : ℕ) (rest s : List ℕ) → s ≡ span cap 1 n b i ++ rest → drop (size n) s ≡ rest
@@ -198,7 +208,15 @@ pub length-mixed : (cap n l : ℕ) (b : List ℕ) (i : ℕ) → l ≤ n → leng
 length-mixed cap n l b i h =
     let e : n - l + l ≡ n = omega arith in
     length-append (span cap 1 l b (suc i)) (span cap (suc l) (n - l) b i)
-    ∙ omega (arith, length-all cap l b (suc i), length-all cap l b i, length-append (span cap 1 l b i) (span cap (suc l) (n - l) b i), ap length (span-join cap (n - l) l b i), ap (λ (m : ℕ). length (span cap 1 m b i)) e, length-all cap n b i)
+    ∙ omega (
+      arith,
+      length-all cap l b (suc i),
+      length-all cap l b i,
+      length-append (span cap 1 l b i) (span cap (suc l) (n - l) b i),
+      ap length (span-join cap (n - l) l b i),
+      ap (λ (m : ℕ). length (span cap 1 m b i)) e,
+      length-all cap n b i,
+    )
 
 -- what lies behind the levels, then
 pub mixed-rest : (cap n l : ℕ) (b : List ℕ) (i : ℕ) (rest s : List ℕ) → l ≤ n → s ≡ mixed cap n l b i rest → drop (size n) s ≡ rest
@@ -219,7 +237,12 @@ module _ (P Q R : List ℕ) (a k : ℕ) (p : length P ≡ a) (q : length Q ≡ k
   put-is T = rw (take-at P (Q ++ R) a p, drop-at P (Q ++ R) a p, drop-at Q R k q) refl
 
 -- level l + 1's part of the slice: what it holds before the place, and the slice once it holds what it does after
-module _ (cap n l : ℕ) (b : List ℕ) (i : ℕ) (rest s : List ℕ) (w : ℕ) (h : l < n) (e : w ≡ 2 ^ suc l) (m : s ≡ mixed cap n l b i rest) where
+module _ (cap n l : ℕ) (b : List ℕ) (i : ℕ) (rest s : List ℕ) (w : ℕ) (h : l < n) (e : w ≡ 2 ^ suc l)
+    (m : s ≡ mixed cap n l b i rest) where
+  -- the levels behind it
+  abbrev longer : List ℕ
+  longer = span cap (suc (suc l)) (n - suc l) b i ++ rest
+
   start-is : length (span cap 1 l b (suc i)) ≡ w * 2 - 4
   start-is = omega (arith, length-span cap l b (suc i))
 
@@ -229,12 +252,13 @@ module _ (cap n l : ℕ) (b : List ℕ) (i : ℕ) (rest s : List ℕ) (w : ℕ) 
   pub lent : take (w * 4 - 4 - (w * 2 - 4)) (drop (w * 2 - 4) s) ≡ part cap (suc l) b i
   lent =
       rw (m, mixed-open cap n l b i rest h)
-      (mid-is (span cap 1 l b (suc i)) (part cap (suc l) b i) (span cap (suc (suc l)) (n - suc l) b i ++ rest) (w * 2 - 4) (w * 4 - 4 - (w * 2 - 4)) start-is width-is)
+      (mid-is (span cap 1 l b (suc i)) (part cap (suc l) b i) longer (w * 2 - 4) (w * 4 - 4 - (w * 2 - 4)) start-is width-is)
 
   pub back : (t : List ℕ) → t ≡ part cap (suc l) b (suc i) → putMid (w * 2 - 4) (w * 4 - 4 - (w * 2 - 4)) s t ≡ mixed cap n (suc l) b i rest
   back t f =
       rw (m, mixed-open cap n l b i rest h, f)
-      (put-is (span cap 1 l b (suc i)) (part cap (suc l) b i) (span cap (suc (suc l)) (n - suc l) b i ++ rest) (w * 2 - 4) (w * 4 - 4 - (w * 2 - 4)) start-is width-is (part cap (suc l) b (suc i))
+      (put-is (span cap 1 l b (suc i)) (part cap (suc l) b i) longer (w * 2 - 4) (w * 4 - 4 - (w * 2 - 4)) start-is width-is
+      (part cap (suc l) b (suc i))
       ∙ mixed-close cap n l b i rest)
 
 -- "In the lent slice level L starts at 2^(L+1) - 4 and has 2^(L+1) counters", for L = l + 1
@@ -243,6 +267,9 @@ level-at cap n l b i h =
     let e : n - l + l ≡ n = omega arith in
     let f : n - l ≡ suc (n - suc l) = omega arith in
     let whole : span cap 1 n b i ≡ span cap 1 l b i ++ (part cap (suc l) b i ++ span cap (suc (suc l)) (n - suc l) b i) =
-    sym (rw e at (span-join cap (n - l) l b i)) ∙ ap (λ (m : ℕ). span cap 1 l b i ++ span cap (suc l) m b i) f ∙ ap (λ (t : List ℕ). span cap 1 l b i ++ t) (span-first cap (suc l) (n - suc l) b i) in
+    sym (rw e at (span-join cap (n - l) l b i))
+    ∙ ap (λ (m : ℕ). span cap 1 l b i ++ span cap (suc l) m b i) f
+    ∙ ap (λ (t : List ℕ). span cap 1 l b i ++ t) (span-first cap (suc l) (n - suc l) b i) in
     rw whole
-    (mid-is (span cap 1 l b i) (part cap (suc l) b i) (span cap (suc (suc l)) (n - suc l) b i) (2 ^ suc (suc l) - 4) (2 ^ suc (suc l)) (omega (arith, length-span cap l b i)) (length-part cap (suc l) b i))
+    (mid-is (span cap 1 l b i) (part cap (suc l) b i) (span cap (suc (suc l)) (n - suc l) b i) (2 ^ suc (suc l) - 4) (2 ^ suc (suc l))
+    (omega (arith, length-span cap l b i)) (length-part cap (suc l) b i))

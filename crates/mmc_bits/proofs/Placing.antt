@@ -7,7 +7,7 @@ use native.Mathlib.Nat.{le-of-lt}
 use lib.ListN.{set, drop, drop-of-length-le}
 use Rattle.mmc_bits.specs.Levels.{levels, cap}
 use Rattle.mmc_bits.specs.Space.{span, size}
-use Rattle.mmc_bits.specs.Steps.{guesses, heeded, Entered, Passed, Last, Ended, Before, After}
+use Rattle.mmc_bits.specs.inner.Steps.{guesses, heeded, Entered, Passed, Last, Ended, Before, After}
 use Rattle.mmc_bits.proofs.Counting.{distinct-early}
 use Rattle.mmc_bits.proofs.Parts.{mixed-few, mixed-own, mixed-rest}
 use Rattle.mmc_bits.proofs.Guessing.{guess-heeds, guesses-more, guesses-few}
@@ -48,6 +48,8 @@ module _ {b : List ℕ} {i recent bit stored : ℕ} {counters gs : List ℕ} (h 
       all-after =
           record {
             stored-is = q .stored-is;
-            counted = q .counted ∙ ap (λ (t : List ℕ). span cap 1 levels b (suc i) ++ t) (mixed-rest cap levels 15 b i (drop (size levels) counters) counters′ (omega arith) (p .counted));
+            counted = q .counted
+                ∙ ap (λ (t : List ℕ). span cap 1 levels b (suc i) ++ t)
+                (mixed-rest cap levels 15 b i (drop (size levels) counters) counters′ (omega arith) (p .counted));
             said = all-said;
           }

@@ -5,13 +5,13 @@ use mathlib.Core.List.{List}
 use native.Mathlib.Omega.{arith}
 use lib.ListN.{getD, set, length, take, drop}
 use lib.Pow.{pow-pos, pow-mono}
-use lib.Bits.{bitAnd}
+use lib.Bits.{bitAnd, and-le-r}
 use borrow.Rule.Slice.PartMut.{putMid}
 use Rattle.mmc_bits.specs.Levels.{levels, cap}
-use Rattle.mmc_bits.specs.Counters.{context, pair, distinct, counter}
+use Rattle.mmc_bits.specs.Counters.{context, pair, counter}
 use Rattle.mmc_bits.specs.Guesses.{verdict, own, guess}
 use Rattle.mmc_bits.specs.Space.{part, size}
-use Rattle.mmc_bits.specs.Steps.{Bits, spoken, heeded, bumped, kept, Entered, Passed, Last, Ended}
+use Rattle.mmc_bits.specs.inner.Steps.{Bits, spoken, heeded, bumped, kept, Entered, Passed, Last, Ended, distinct}
 use Rattle.mmc_bits.proofs.Counting.{counters-le}
 use Rattle.mmc_bits.proofs.Room.{context-lt}
 use Rattle.mmc_bits.proofs.Contexts.{key}
@@ -59,6 +59,10 @@ module _ (cap L : ℕ) (b : List ℕ) (i : ℕ) (xs : List ℕ) (at bit : ℕ) (
 pub width : (l w : ℕ) → l < levels → w ≡ 2 ^ suc l → (2 ≤ w) × (w ≤ 65536)
 width l w h e = let m : 2 ^ suc l ≤ 65536 = pow-mono {i = suc l} {j = levels} h in omega (arith, pow-pos l)
 
+-- and where the counters of a context stand among them
+pub mask-fits : (recent w : ℕ) → (2 ≤ w) × (w ≤ 65536) → bitAnd recent (w - 1) * 2 < 18446744073709551616
+mask-fits recent w h = omega (arith, and-le-r recent (w - 1), h .1)
+
 -- the part that is lent where a level has w contexts, and the slice once it is back
 abbrev pub lentPart : ℕ → List ℕ → List ℕ
 lentPart w s = take (w * 4 - 4 - (w * 2 - 4)) (drop (w * 2 - 4) s)
@@ -77,7 +81,8 @@ module _ {b : List ℕ} {i recent bit top : ℕ} {counters₀ : List ℕ} (h : E
   passed-none gs =
       record { under-is = below-start cap b i; said = guesses-none cap b i gs; counted = h .counted ∙ mixed-none cap levels b i (drop (size levels) counters₀) }
 
-  module _ {l : ℕ} {gs₀ counters gs : List ℕ} {under : ℕ} (p : Passed b i l counters₀ gs₀ counters gs under) (w : ℕ) (lt : l < top) (few : top < levels) (e : w ≡ 2 ^ suc l) where
+  module _ {l : ℕ} {gs₀ counters gs : List ℕ} {under : ℕ} (p : Passed b i l counters₀ gs₀ counters gs under)
+      (w : ℕ) (lt : l < top) (few : top < levels) (e : w ≡ 2 ^ suc l) where
     in-part : lentPart w counters ≡ part cap (suc l) b i
     in-part = lent cap levels l b i (drop (size levels) counters₀) counters w (omega arith) e (p .counted)
 
@@ -136,12 +141,17 @@ module _ {b : List ℕ} {i recent bit n : ℕ} {counters : List ℕ} (h : Last b
       (gt : t ≡ set (lentPart w counters) (recent * 2 + bit) (bumped cap (getD (lentPart w counters) (recent * 2 + bit) 0) n)) where
     last-counted : t ≡ part cap levels b (suc i)
     last-counted =
-        gt ∙ stored-last cap levels b i (lentPart w counters) (recent * 2) bit last-part last-context (h .stands .bit-is) (h .stands .bits) (h .long) n (h .stored-is)
+        gt
+        ∙ stored-last cap levels b i (lentPart w counters) (recent * 2) bit last-part last-context
+        (h .stands .bit-is) (h .stands .bits) (h .long) n (h .stored-is)
 
     pub last-ends : Ended b i r m counters (putBack w counters t)
     last-ends =
         record {
           guess-is = gr ∙ ap spoken (gives cap levels b i (lentPart w counters) (recent * 2) bit last-part last-context (h .stands .bit-is));
-          stored-is = gm ∙ number-last cap levels b i (lentPart w counters) (recent * 2) bit last-part last-context (h .stands .bit-is) (h .stands .bits) (h .long) n (h .stored-is);
-          counted = back cap levels 15 b i (drop (size levels) counters) counters w (omega arith) e (h .counted) t last-counted ∙ mixed-all cap levels b i (drop (size levels) counters);
+          stored-is = gm
+              ∙ number-last cap levels b i (lentPart w counters) (recent * 2) bit last-part last-context
+              (h .stands .bit-is) (h .stands .bits) (h .long) n (h .stored-is);
+          counted = back cap levels 15 b i (drop (size levels) counters) counters w (omega arith) e (h .counted) t last-counted
+              ∙ mixed-all cap levels b i (drop (size levels) counters);
         }

@@ -4,7 +4,7 @@ use mathlib.Core.Path.{_≡_, refl, sym, ap, _∙_}
 use mathlib.Core.List.{List, [], _∷_, _++_, append-assoc, append-nil}
 use native.Mathlib.Omega.{arith}
 use native.Mathlib.Nat.{zero-add, suc-add}
-use lib.ListN.{getD, set, length, drop, replicate, length-append, length-set, length-drop}
+use lib.ListN.{getD, set, length, drop, replicate, length-set}
 use lib.Seq.{ext-getD, getD-set-same, getD-set-other, set-at, append-snoc, drop-cons}
 use lib.Dec.{eqb}
 use borrow.Author.Tests.{eqb-true, eqb-false}
@@ -28,14 +28,14 @@ table-set n f g k v e o = ext-getD 0 (set (table n f) k v) (table n g)
     (λ t. let q : k ≡ j → ⊥ = eqb-false _ _ t in
     getD-set-other (table n f) k j v 0 (λ z. q (sym z)) ∙ table-at n f j lt ∙ sym (o j q) ∙ sym (table-at n g j lt)))
 
-pub table-add : (m n : ℕ) → table m (λ _. 0) ++ table n (λ _. 0) ≡ table (n + m) (λ _. 0)
-unfolding table
-table-add m zero = rw (zero-add m) (append-nil (table m (λ _. 0)))
-table-add m (suc n) = sym (append-assoc (table m (λ _. 0)) (table n (λ _. 0)) (0 ∷ [])) ∙ rw (suc-add n m, table-add m n) refl
-
 replicate-more : (m v : ℕ) → replicate {A = ℕ} (suc m) v ≡ replicate m v ++ (v ∷ [])
 replicate-more zero v = refl
 replicate-more (suc m) v = ap (λ (t : List ℕ). v ∷ t) (replicate-more m v)
+
+pub table-zeros : (n : ℕ) → table n (λ _. 0) ≡ replicate n 0
+unfolding table
+table-zeros zero = refl
+table-zeros (suc n) = rw (table-zeros n) (sym (replicate-more n 0))
 
 -- where all further values are the same
 pub table-rest : (m i v : ℕ) (f : ℕ → ℕ) → ((n : ℕ) → i ≤ n → f n ≡ v) → table i f ++ replicate m v ≡ table (m + i) f
@@ -46,14 +46,8 @@ table-rest (suc m) i v f e =
     ∙ rw (suc-add m i, table-rest m i v f e, e (m + i) (omega arith)) refl
 
 -- a list that is written from the left
-pub table-none : (f : ℕ → ℕ) (d : List ℕ) → d ≡ table 0 f ++ drop 0 d
-unfolding table
-table-none f d = refl
-
 pub table-fill : (n : ℕ) (f : ℕ → ℕ) (d : List ℕ) → n < length d → set (table n f ++ drop n d) n (f n) ≡ table (suc n) f ++ drop (suc n) d
 unfolding table
 table-fill n f d h =
-    rw (drop-cons d n 0 h) (set-at (table n f) (getD d n 0) (drop (suc n) d) (f n) n (table-length n f) ∙ sym (append-snoc (table n f) (f n) (drop (suc n) d)))
-
-pub length-fill : (n : ℕ) (f : ℕ → ℕ) (d : List ℕ) → n ≤ length d → length (table n f ++ drop n d) ≡ length d
-length-fill n f d h = length-append (table n f) (drop n d) ∙ omega (arith, table-length n f, length-drop n d)
+    rw (drop-cons d n 0 h)
+    (set-at (table n f) (getD d n 0) (drop (suc n) d) (f n) n (table-length n f) ∙ sym (append-snoc (table n f) (f n) (drop (suc n) d)))

@@ -1,10 +1,11 @@
 -- The counters of a level of MultiMMC on bits, read from the whole history. Definitions only.
 -- b is the list of bits, L a level's prefix length, i and j places of b, and k a pair: context times two, plus next bit.
 use Prim.Native.Nat.{ℕ, zero, suc, _+_, _*_, _%_, _^_}
-use mathlib.Core.Bool.{Bool, true, false, _&&_, cond}
+use mathlib.Core.Bool.{Bool, _&&_, cond}
 use mathlib.Core.List.{List}
 use lib.ListN.{getD}
 use lib.Dec.{leb, ltb, eqb}
+use Rattle.capture.specs.Bits.{one}
 
 -- the number whose binary digits are the first i bits, "the oldest bit highest"
 unfoldable pub before : List ℕ → ℕ → ℕ
@@ -19,10 +20,6 @@ context L b i = before b i % 2 ^ L
 unfoldable pub pair : ℕ → List ℕ → ℕ → ℕ
 pair L b j = context L b j * 2 + getD b j 0
 
-abbrev pub one : Bool → ℕ
-one true = 1
-one false = 0
-
 -- how many places j with from ≤ j < i pass a test
 unfoldable pub places : (ℕ → Bool) → ℕ → ℕ → ℕ
 places p from zero = zero
@@ -36,11 +33,7 @@ occurs L b k i = places (λ j. eqb (pair L b j) k) L i
 unfoldable pub fresh : ℕ → List ℕ → ℕ → Bool
 fresh L b j = eqb (occurs L b (pair L b j) j) 0
 
--- how many distinct pairs occurred before place i
-unfoldable pub distinct : ℕ → List ℕ → ℕ → ℕ
-distinct L b i = places (fresh L b) L i
-
--- how many of them occurred when k had not occurred yet
+-- how many distinct pairs occurred before place i, when k had not occurred yet
 unfoldable pub ahead : ℕ → List ℕ → ℕ → ℕ → ℕ
 ahead L b k i = places (λ j. fresh L b j && eqb (occurs L b k (suc j)) 0) L i
 

@@ -9,6 +9,6 @@ levels = 16
 abbrev pub cap : ℕ
 cap = 100000
 
--- "predictions start at place 2"
+-- "predictions start at place 2", so "N = length - 2"
 abbrev pub firstPlace : ℕ
 firstPlace = 2

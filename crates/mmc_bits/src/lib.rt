@@ -1,4 +1,4 @@
-// MultiMMC on bits (SP 800-90B 6.3.9): sixteen levels count which bit followed their contexts, and race.
-mod place;
-pub mod run;
+// MultiMMC on bits (SP 800-90B 6.3.9): sixteen levels count which bit followed their contexts, place by place.
+pub mod clear;
+pub mod place;
 mod step;

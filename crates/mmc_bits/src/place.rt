@@ -9,7 +9,7 @@ ghost use lib.ListN.{length};
 ghost use Prim.Native.Nat.{ℕ, _≤_, _<_, _^_};
 ghost use Rattle.mmc_bits.specs.Levels.{levels};
 ghost use Rattle.mmc_bits.specs.Space.{size};
-ghost use Rattle.mmc_bits.specs.Steps.{Some, Entered, Passed, Last, Ended, Before, After};
+ghost use Rattle.mmc_bits.specs.inner.Steps.{Some, Entered, Passed, Last, Ended, Before, After};
 
 // The levels 1 to `top` at a place, each in its own part of the counters: the bit is counted, and what each level says is written to
 // `guesses`. `recent` is the last 16 bits. Returns what level `top` says.
@@ -22,7 +22,8 @@ fn short_levels(
 ) -> u16
     requires { ⌜ (size levels ≤ length (now counters)) × (length (now guesses) ≡ levels) × (top < levels) ⌝ }
     requires { ⌜ Some (List ℕ × ℕ) (λ h. Entered (h .0) (h .1) recent bit top (now counters)) ⌝ }
-    ensures { λ r. ⌜ ((b : List ℕ) (i : ℕ) → Entered b i recent bit top (now (counters .entry)) → Passed b i top (now (counters .entry)) (now (guesses .entry)) (now (counters .exit)) (now (guesses .exit)) r) ⌝ }
+    ensures { λ r. ⌜ ((b : List ℕ) (i : ℕ) → Entered b i recent bit top (now (counters .entry))
+        → Passed b i top (now (counters .entry)) (now (guesses .entry)) (now (counters .exit)) (now (guesses .exit)) r) ⌝ }
 {
     let mut under: u16 = 1;
     let mut l: usize = 0;
@@ -43,7 +44,8 @@ fn short_levels(
 fn last_level(counters: &mut [u32], recent: usize, bit: usize, stored: usize, w: usize) -> Capped
     requires { ⌜ (size levels ≤ length (now counters)) × (w ≡ 2 ^ levels) ⌝ }
     requires { ⌜ Some (List ℕ × ℕ) (λ h. Last (h .0) (h .1) recent bit stored (now counters)) ⌝ }
-    ensures { λ r. ⌜ ((b : List ℕ) (i : ℕ) → Last b i recent bit stored (now (counters .entry)) → Ended b i (r .guess) (r .stored) (now (counters .entry)) (now (counters .exit))) ⌝ }
+    ensures { λ r. ⌜ ((b : List ℕ) (i : ℕ) → Last b i recent bit stored (now (counters .entry))
+        → Ended b i (r .guess) (r .stored) (now (counters .entry)) (now (counters .exit))) ⌝ }
 {
     let start = w * 2 - 4;
     let end = w * 4 - 4;
@@ -61,7 +63,8 @@ pub fn place(
 ) -> usize
     requires { ⌜ size levels ≤ length (now counters) ⌝ }
     requires { ⌜ Some (List ℕ) (λ b. Before b i recent bit stored (now counters) (now guesses)) ⌝ }
-    ensures { λ r. ⌜ ((b : List ℕ) → Before b i recent bit stored (now (counters .entry)) (now (guesses .entry)) → After b i r (now (counters .entry)) (now (counters .exit)) (now (guesses .exit))) ⌝ }
+    ensures { λ r. ⌜ ((b : List ℕ) → Before b i recent bit stored (now (counters .entry)) (now (guesses .entry))
+        → After b i r (now (counters .entry)) (now (counters .exit)) (now (guesses .exit))) ⌝ }
 {
     if i < 16 {
         short_levels(counters, guesses, recent, bit, i);

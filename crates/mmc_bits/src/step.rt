@@ -1,25 +1,16 @@
 // One level at one place, on its own part of the counters.
 use race::SILENT;
 ghost use mathlib.Core.Path.{_≡_};
-ghost use mathlib.Core.Bool.{cond};
-ghost use lib.Dec.{eqb, ltb};
 ghost use lib.ListN.{length, getD, set};
 ghost use Prim.Native.Nat.{_+_, _<_};
 ghost use Rattle.mmc_bits.specs.Levels.{cap};
 ghost use Rattle.mmc_bits.specs.Guesses.{verdict};
-ghost use Rattle.mmc_bits.specs.Steps.{spoken, heeded, bumped, kept};
+ghost use Rattle.mmc_bits.specs.inner.Steps.{spoken, heeded, bumped, kept};
 
 // How many distinct pairs level 16 counts.
 pub const CAP: usize = 100_000;
 
-// The bit with the larger counter, 1 on a tie.
-fn larger(zeros: u32, ones: u32) -> u16
-    ensures { λ r. ⌜ r ≡ cond (ltb ones zeros) 0 1 ⌝ }
-{
-    if ones < zeros { 0 } else { 1 }
-}
-
-// What two counters say of the next bit.
+// What two counters say of the next bit: that with the larger, 1 on a tie.
 fn look(zeros: u32, ones: u32) -> u16
     requires { ⌜ zeros + ones < 4294967296 ⌝ }
     ensures { λ r. ⌜ r ≡ spoken (verdict zeros ones) ⌝ }
@@ -27,14 +18,7 @@ fn look(zeros: u32, ones: u32) -> u16
     if zeros + ones == 0 {
         return SILENT;
     }
-    larger(zeros, ones)
-}
-
-// The counter of a bit.
-fn of_bit(zeros: u32, ones: u32, bit: usize) -> u32
-    ensures { λ r. ⌜ r ≡ cond (eqb bit 0) zeros ones ⌝ }
-{
-    if bit == 0 { zeros } else { ones }
+    if ones < zeros { 0 } else { 1 }
 }
 
 // What a level says that holds `own`, where the next shorter one says `under`.
@@ -50,10 +34,10 @@ pub fn level_step(part: &mut [u32], at: usize, bit: usize) -> u16
     ensures { λ r. ⌜ r ≡ spoken (verdict (getD (now (part .entry)) at 0) (getD (now (part .entry)) (at + 1) 0)) ⌝ }
     ensures { λ _. ⌜ now (part .exit) ≡ set (now (part .entry)) (at + bit) (getD (now (part .entry)) (at + bit) 0 + 1) ⌝ }
 {
-    let zeros = part[at];
-    let ones = part[at + 1];
-    part[at + bit] = of_bit(zeros, ones, bit) + 1;
-    look(zeros, ones)
+    let guess = look(part[at], part[at + 1]);
+    let k = at + bit;
+    part[k] += 1;
+    guess
 }
 
 // A guess, and how many pairs have counters.

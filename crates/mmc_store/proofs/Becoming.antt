@@ -11,34 +11,27 @@ use Rattle.mmc_store.specs.Counts.{same, count}
 use Rattle.mmc_store.specs.Levels.{Level, counting, found, level}
 use Rattle.mmc_store.proofs.Entries.{level-cases, found-shorter}
 
-clash : {b : Bool} {A : Type 0} → b ≡ true → b ≡ false → A
-clash p q = absurd (let z : _≡_ {A = ℕ} 0 1 = cc in omega arith)
-
 module _ (cap : ℕ) (s : List ℕ) (L i : ℕ) (l : L ≤ i) where
   abbrev v : Level
   v = level cap s i L
 
+  abbrev f : Bool
+  f = found s (level cap s i) i L
+
   abbrev n : ℕ
   n = count s L (level cap s i L .places) i (getD s i 0)
 
-  -- the pair was counted before
-  pub becomes-again : (n ≡ 0 → ⊥) → found s (level cap s i) i L ≡ true → level cap s (suc i) L ≡ counting v i 0
-  becomes-again f t =
-      level-cases cap s L i (λ u. u ≡ counting v i 0) l (λ a b. absurd (f (b t))) (λ a b. refl) (λ a b. absurd (f (b t)))
+  -- the context is found, and the pair was counted before
+  pub becomes-again : f ≡ true → (n ≡ 0 → ⊥) → level cap s (suc i) L ≡ counting v i 0
+  becomes-again t g = level-cases cap s L i (λ u. u ≡ counting v i 0) l (λ a b. absurd (g (b t))) (λ a b. refl) (λ a b. absurd (g (b t)))
 
-  -- it was not
-  pub becomes-new : n ≡ 0 → v .entries < cap → level cap s (suc i) L ≡ counting v i 1
-  becomes-new z h = level-cases cap s L i (λ u. u ≡ counting v i 1) l (λ a b. refl) (λ a b. absurd (b z)) (λ a b. absurd (omega arith))
+  -- the context is absent, or a shorter one is, or the pair was not counted
+  pub becomes-new : (f ≡ true → n ≡ 0) → v .entries < cap → level cap s (suc i) L ≡ counting v i 1
+  becomes-new z h =
+      level-cases cap s L i (λ u. u ≡ counting v i 1) l (λ a b. refl) (λ a b. absurd (b (z a))) (λ a b. absurd (omega arith))
 
-  pub becomes-same : n ≡ 0 → cap ≤ v .entries → level cap s (suc i) L ≡ v
-  becomes-same z h = level-cases cap s L i (λ u. u ≡ v) l (λ a b. absurd (omega arith)) (λ a b. absurd (b z)) (λ a b. refl)
-
-  -- the context is absent, or a shorter one is
-  pub absent-new : found s (level cap s i) i L ≡ false → v .entries < cap → level cap s (suc i) L ≡ counting v i 1
-  absent-new t h = level-cases cap s L i (λ u. u ≡ counting v i 1) l (λ a b. refl) (λ a b. clash a t) (λ a b. absurd (omega arith))
-
-  pub absent-same : found s (level cap s i) i L ≡ false → cap ≤ v .entries → level cap s (suc i) L ≡ v
-  absent-same t h = level-cases cap s L i (λ u. u ≡ v) l (λ a b. absurd (omega arith)) (λ a b. clash a t) (λ a b. refl)
+  pub becomes-same : (f ≡ true → n ≡ 0) → cap ≤ v .entries → level cap s (suc i) L ≡ v
+  becomes-same z h = level-cases cap s L i (λ u. u ≡ v) l (λ a b. absurd (omega arith)) (λ a b. absurd (b (z a))) (λ a b. refl)
 
 absent-by : (s : List ℕ) (at : ℕ → Level) (i L d : ℕ) → found s at i L ≡ false → found s at i (L + d) ≡ false
 absent-by s at i L zero h = let e : L + 0 ≡ L = omega arith in rw e h
@@ -47,7 +40,7 @@ absent-by s at i L (suc d) h =
   where
     go : (b : Bool) → found s at i (suc (L + d)) ≡ b → found s at i (L + d) ≡ false → found s at i (suc (L + d)) ≡ false
     go false q ih = q
-    go true q ih = clash (found-shorter s at i (L + d) q) ih
+    go true q ih = let t = found-shorter s at i (L + d) q in absurd (let z : _≡_ {A = ℕ} 0 1 = cc in omega arith)
 
 pub absent-longer : (s : List ℕ) (at : ℕ → Level) (i L K : ℕ) → L ≤ K → found s at i L ≡ false → found s at i K ≡ false
 absent-longer s at i L K l h = let e : L + (K - L) ≡ K = omega arith in rw e at (absent-by s at i L (K - L) h)

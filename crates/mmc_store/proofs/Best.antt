@@ -10,7 +10,7 @@ use lib.ListN.{getD}
 use lib.Dec.{eqb, leb, ltb}
 use borrow.Author.Tests.{eq-eqb, ne-eqb, leb-true, leb-false, lt-ltb}
 use Rattle.mmc_store.specs.Counts.{same, present, count, largest, predicted}
-use Rattle.mmc_store.specs.Words.{keyOf, best}
+use Rattle.mmc_store.specs.inner.Words.{keyOf, best}
 
 -- ---- the largest of the counts f of the symbols below n, each with its symbol
 unfoldable most : (ℕ → ℕ) → ℕ → ℕ

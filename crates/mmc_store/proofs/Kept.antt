@@ -1,15 +1,18 @@
--- What is kept over all levels: its tables have room, it names the places of the levels below N alone, and empty tables keep no places.
--- Assumes nothing.
+-- What is kept over all levels: its tables are of their size, a word that is missing is absent and has no longer one, and empty tables keep no
+-- places. Assumes nothing.
 use Prim.Native.Nat.{ℕ, zero, suc, _+_, _-_, _≤_, _<_}
 use mathlib.Core.Path.{_≡_, sym, ap, subst, _∙_}
+use mathlib.Core.Bool.{false}
 use mathlib.Core.List.{List, []}
 use native.Mathlib.Omega.{arith}
 use native.Mathlib.Decide.{ℕ-discrete}
 use lib.ListN.{length, getD}
-use Rattle.table.specs.Table.{Table, size, room, valueAt, numberAt, entryOf}
+use lib.Dec.{ltb}
+use Rattle.table.specs.inner.Table.{size, room, value, valueAt, numberAt, entryOf}
 use Rattle.table.proofs.Laws.{empty-table}
 use Rattle.mmc_store.specs.Counts.{present, count}
-use Rattle.mmc_store.specs.Words.{counts, bests, keyOf, node, words, best, Stores, Kept}
+use Rattle.mmc_store.specs.inner.Words.{counts, bests, keyOf, node, words, best, Stores, Kept}
+use Rattle.mmc_store.proofs.Best.{present-best}
 use Rattle.mmc_store.proofs.Nodes.{word-le}
 
 -- what holds of l, of l + 1 and of every other number holds of every number
@@ -23,9 +26,9 @@ by-level P l a b c d = go (ℕ-discrete d l) (ℕ-discrete d (suc l))
     go (no f) (no g) = c d f g
 
 module _ {N : ℕ} {s : List ℕ} {h T : ℕ → List ℕ} (w : Kept N s h T) where
-  pub kept-table : (l : ℕ) → l ≤ N → Table (T l)
-  kept-table zero a = w .root
-  kept-table (suc l) a = w .trie l a .table
+  pub kept-long : (l : ℕ) → l ≤ N → length (T l) ≡ size
+  kept-long zero a = w .root
+  kept-long (suc l) a = w .trie l a .table .long
 
   pub kept-few : (l : ℕ) → l ≤ N → words T l ≤ room
   unfolding words
@@ -40,6 +43,14 @@ module _ {N : ℕ} {s : List ℕ} {h T : ℕ → List ℕ} (w : Kept N s h T) wh
     closed = w .closed;
   }
 
+  -- a context that is missing is absent
+  pub kept-absent : ((j : ℕ) → getD s j 0 < 256) → (l i : ℕ) → l < N → node T s l i ≡ 0 → present s (suc l) (h l) i ≡ false
+  unfolding node
+  kept-absent bytes zero i a z = absurd (omega arith)
+  kept-absent bytes (suc l) i a z =
+      sym (present-best s (suc (suc l)) bytes (h (suc l)) i)
+      ∙ ap (ltb 0) (w .stores (suc l) a .bests-are i ∙ ap (value (T (suc l)) bests) z ∙ w .trie l (omega arith) .table .none bests (omega arith))
+
   -- every longer word is missing then
   pub closed-up : (l i j : ℕ) → l ≤ j → j ≤ N → node T s l i ≡ 0 → node T s j i ≡ 0
   closed-up l i j a b z = let e : l + (j - l) ≡ j = omega arith in rw e at (go (j - l) (omega arith))
@@ -51,9 +62,6 @@ module _ {N : ℕ} {s : List ℕ} {h T : ℕ → List ℕ} (w : Kept N s h T) wh
 -- ---- nothing was put in
 module _ (N : ℕ) (s : List ℕ) (h T : ℕ → List ℕ) (clear : (j : ℕ) → j ≤ N → (length (T j) ≡ size) × ((a : ℕ) → getD (T j) a 0 ≡ 0))
     (none : (l : ℕ) → h l ≡ []) where
-  table : (j : ℕ) → j ≤ N → Table (T j)
-  table j a = empty-table (T j) (clear j a .0) (clear j a .1)
-
   no-word : (l i : ℕ) → l < N → node T s (suc l) i ≡ 0
   no-word l i a = omega (arith, word-le T s l i, clear (suc l) a .1 numberAt)
 
@@ -67,9 +75,9 @@ module _ (N : ℕ) (s : List ℕ) (h T : ℕ → List ℕ) (clear : (j : ℕ) �
 
   pub empty-kept : Kept N s h T
   empty-kept = record {
-    root = table 0 (omega arith);
+    root = clear 0 (omega arith) .0;
     trie = λ l a. record {
-      table = table (suc l) a;
+      table = empty-table (T (suc l)) (clear (suc l) a .0) (clear (suc l) a .1);
       from = λ e b. absurd (omega (arith, clear (suc l) a .1 numberAt));
       to = λ e b. absurd (omega (arith, clear (suc l) a .1 numberAt));
     };

@@ -33,7 +33,8 @@ largest-top f (suc n) = go (largest f (suc n)) (largest-top f n) (leb (f (larges
     go b w false e = record {
       below = omega (arith, w .below);
       most = λ y l. ⊎-elim (λ q. omega (arith, ap f q, leb-false (f b) (f (suc n)) e)) (λ h. w .most y h) (eq-or-lt-of-le (le-of-suc-le-suc l));
-      ties = λ y l q. ⊎-elim (λ r. absurd (let z : f b < f b = omega (arith, ap f r, leb-false (f b) (f (suc n)) e) in omega arith)) (λ h. w .ties y h q) (eq-or-lt-of-le (le-of-suc-le-suc l));
+      ties = λ y l q. ⊎-elim (λ r. absurd (let z : f b < f b = omega (arith, ap f r, leb-false (f b) (f (suc n)) e) in omega arith))
+          (λ h. w .ties y h q) (eq-or-lt-of-le (le-of-suc-le-suc l));
     }
 
 pub top-one : (f : ℕ → ℕ) (n a b : ℕ) → Top f n a → Top f n b → a ≡ b

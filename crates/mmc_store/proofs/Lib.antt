@@ -6,7 +6,6 @@ pub mod Entries
 pub mod Becoming
 pub mod Few
 pub mod Telling
-pub mod Settling
 pub mod Examples
 pub mod Parts
 pub mod Nodes
@@ -15,8 +14,7 @@ pub mod Kept
 pub mod Made
 pub mod Counted
 pub mod Reached
-pub mod Looking
+pub mod Saying
 pub mod Counting
 pub mod Turning
-pub mod Standing
 pub mod Running

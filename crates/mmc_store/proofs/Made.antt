@@ -1,39 +1,54 @@
--- What is kept after a word was made that has no count yet, or that was there already: all that was kept before. Assumes nothing.
+-- What is kept after a word was made that has no count yet, or that was there already: all that was kept before. Where it is missing then, it
+-- could not be made. Assumes nothing.
 use Prim.Native.Nat.{ℕ, zero, suc, _+_, _-_, _≤_, _<_}
 use mathlib.Core.Path.{_≡_, refl, sym, ap, ap₂, subst, fun-ext, _∙_}
+use mathlib.Core.Logic.{_⊎_, inl, inr}
 use mathlib.Core.Bool.{Bool, true, false, cond}
 use mathlib.Core.List.{List}
 use native.Mathlib.Omega.{arith}
 use native.Mathlib.Decide.{ℕ-discrete, decLt}
-use lib.ListN.{getD}
-use lib.Dec.{eqb}
-use Rattle.table.specs.Table.{Table, number, value, entryOf, room, added, grown, keyLimit}
-use Rattle.table.proofs.Laws.{number-more, grown-new, grown-there, grown-not}
-use Rattle.mmc_store.specs.Counts.{same, count}
-use Rattle.mmc_store.specs.Words.{counts, bests, keyOf, node, words, Keyed, Stores, Kept}
-use Rattle.mmc_store.proofs.Same.{and-right, same-refl}
+use lib.ListN.{getD, length}
+use Rattle.table.specs.inner.Table.{number, value, entryOf, room, added, grown, keyLimit}
+use Rattle.table.proofs.Laws.{number-more, grown-new, grown-there, grown-full}
+use Rattle.mmc_store.specs.Counts.{same}
+use Rattle.mmc_store.specs.inner.Words.{counts, bests, keyOf, node, words, Keyed, Stores, Kept}
+use Rattle.mmc_store.proofs.Same.{same-refl, same-shorter}
 use Rattle.mmc_store.proofs.Nodes.{node-le, node-next, node-same, node-below, node-here, node-above}
 use Rattle.mmc_store.proofs.Stored.{keyed-more, keyed-added, stores-agree, pair-made, way-stores}
-use Rattle.mmc_store.proofs.Kept.{by-level}
+use Rattle.mmc_store.proofs.Kept.{by-level, kept-few}
+
+-- what stays once the word of l + 2 symbols before place i + 1 was looked up, and made where it was missing, if there was room
+pub record Grew (N : ℕ) (s : List ℕ) (h T : ℕ → List ℕ) (l i : ℕ) (T′ : ℕ → List ℕ) : Type 0 where
+  pub kept : Kept N s h T′
+  pub others : (d j : ℕ) → d ≤ N → (d ≡ suc l → ⊥) → node T′ s d j ≡ node T s d j
+  pub there : (j : ℕ) → (node T s (suc l) j ≡ 0 → ⊥) → node T′ s (suc l) j ≡ node T s (suc l) j
+  pub more : (number (T′ (suc l)) ≡ number (T (suc l))) ⊎ ((node T s (suc l) (suc i) ≡ 0) × (number (T′ (suc l)) ≡ suc (number (T (suc l)))))
+
+-- nothing was made
+pub grew-not : {N : ℕ} {s : List ℕ} {h T : ℕ → List ℕ} (l i : ℕ) → Kept N s h T → Grew N s h T l i T
+grew-not l i w = record { kept = w; others = λ d j a g. refl; there = λ j g. refl; more = inl refl }
 
 module _ {N : ℕ} {s : List ℕ} {h T : ℕ → List ℕ} (w : Kept N s h T) (bytes : (j : ℕ) → getD s j 0 < 256) (l i : ℕ) (hl : l < N)
-    (parent : 1 ≤ node T s l i) (short : words T l < room) (fits : number (T (suc l)) < room) where
+    (parent : 1 ≤ node T s l i) where
   abbrev k : ℕ
   k = keyOf (node T s l i) (getD s i 0)
 
-  limit : k < keyLimit
+  short : words T l ≤ room
+  short = kept-few w l (omega arith)
+
+  pub limit : k < keyLimit
   limit = omega (arith, node-le T s bytes l i, short, bytes i)
 
   -- ---- the word of l + 1 symbols before place i + 1 is made
-  module _ (newer : 1 ≤ node T s l (suc i)) (new : node T s (suc l) (suc i) ≡ 0) (T′ : ℕ → List ℕ)
+  module _ (fits : number (T (suc l)) < room) (newer : 1 ≤ node T s l (suc i)) (new : node T s (suc l) (suc i) ≡ 0) (T′ : ℕ → List ℕ)
       (here : T′ (suc l) ≡ added (T (suc l)) (keyOf (node T s l i) (getD s i 0))) (others : (j : ℕ) → (j ≡ suc l → ⊥) → T′ j ≡ T j) where
-    pub way-here : (j : ℕ) → node T′ s (suc l) j ≡ cond (same s (suc (suc l)) (suc i) j) (suc (number (T (suc l)))) (node T s (suc l) j)
+    way-here : (j : ℕ) → node T′ s (suc l) j ≡ cond (same s (suc (suc l)) (suc i) j) (suc (number (T (suc l)))) (node T s (suc l) j)
     way-here = node-here N T s (w .trie) bytes l i hl parent new fits limit T′ here others
 
-    pub way-node : node T′ s (suc l) (suc i) ≡ suc (number (T (suc l)))
+    way-node : node T′ s (suc l) (suc i) ≡ suc (number (T (suc l)))
     way-node = way-here (suc i) ∙ rw (same-refl s (suc (suc l)) (suc i))
 
-    pub way-other : (d j : ℕ) → d ≤ N → (d ≡ suc l → ⊥) → node T′ s d j ≡ node T s d j
+    way-other : (d j : ℕ) → d ≤ N → (d ≡ suc l → ⊥) → node T′ s d j ≡ node T s d j
     way-other d j hd f = go (decLt l d)
       where
         go : Dec (l < d) → node T′ s d j ≡ node T s d j
@@ -57,9 +72,11 @@ module _ {N : ℕ} {s : List ℕ} {h T : ℕ → List ℕ} (w : Kept N s h T) (b
     keyed : (d : ℕ) → d < N → Keyed (words T′ d) (T′ (suc d))
     keyed =
         by-level (λ d. d < N → Keyed (words T′ d) (T′ (suc d))) l
-        (λ a. subst (λ (m : List ℕ). Keyed (words T′ l) m) (sym here) (subst (λ (n : ℕ). Keyed n (added (T (suc l)) k)) (sym (words-other l (λ z. omega arith)))
+        (λ a. subst (λ (m : List ℕ). Keyed (words T′ l) m) (sym here)
+        (subst (λ (n : ℕ). Keyed n (added (T (suc l)) k)) (sym (words-other l (λ z. omega arith)))
         (keyed-added (w .trie l hl) (node T s l i) (getD s i 0) (bytes i) parent (node-le T s bytes l i) short missing fits)))
-        (λ a. keyed-more words-here (subst (λ (m : List ℕ). Keyed (words T (suc l)) m) (sym (others (suc (suc l)) (λ z. omega arith))) (w .trie (suc l) a)))
+        (λ a. keyed-more words-here
+        (subst (λ (m : List ℕ). Keyed (words T (suc l)) m) (sym (others (suc (suc l)) (λ z. omega arith))) (w .trie (suc l) a)))
         (λ d f g a. rw (words-other d g, others (suc d) (λ z. f (omega arith))) (w .trie d a))
 
     -- the best of a word that was there
@@ -79,8 +96,9 @@ module _ {N : ℕ} {s : List ℕ} {h T : ℕ → List ℕ} (w : Kept N s h T) (b
     unfolding words
     stored-next a =
         subst (λ (m : List ℕ). Stores s (suc (suc l)) (h (suc l)) (node T′ s (suc l)) m (T′ (suc (suc l)))) (sym here)
-        (subst (λ (m : List ℕ). Stores s (suc (suc l)) (h (suc l)) (node T′ s (suc l)) (added (T (suc l)) k) m) (sym (others (suc (suc l)) (λ z. omega arith)))
-        (way-stores (w .stores (suc l) a) (w .trie l hl .table) (suc i) (node-same T s (suc l) (suc i)) (w .trie (suc l) a)
+        (subst (λ (m : List ℕ). Stores s (suc (suc l)) (h (suc l)) (node T′ s (suc l)) (added (T (suc l)) k) m)
+        (sym (others (suc (suc l)) (λ z. omega arith)))
+        (way-stores (w .stores (suc l) a) (suc i) (node-same T s (suc l) (suc i)) (w .trie l hl .table) (w .trie (suc l) a)
         (node-le T s bytes (suc l)) new k fits missing limit (node T′ s (suc l)) way-here))
 
     stored : (d : ℕ) → d < N → Stores s (suc d) (h d) (node T′ s d) (T′ d) (T′ (suc d))
@@ -89,17 +107,17 @@ module _ {N : ℕ} {s : List ℕ} {h T : ℕ → List ℕ} (w : Kept N s h T) (b
         (λ a. stores-agree (w .stores l hl) (node T′ s l) (T′ l) (T′ (suc l)) times-kept (λ j. best-kept l j (omega arith) (λ z. omega arith)))
         stored-next
         (λ d f g a. stores-agree (w .stores d a) (node T′ s d) (T′ d) (T′ (suc d))
-        (λ j x. ap₂ (λ (m : List ℕ) (e : ℕ). value m counts (entryOf m (keyOf e x))) (others (suc d) (λ z. f (omega arith))) (way-other d j (omega arith) g))
+        (λ j x. ap₂ (λ (m : List ℕ) (e : ℕ). value m counts (entryOf m (keyOf e x)))
+        (others (suc d) (λ z. f (omega arith))) (way-other d j (omega arith) g))
         (λ j. best-kept d j (omega arith) g))
 
     -- the same word has the same newer symbols, which are there
     closed-here : (j : ℕ) → node T s l j ≡ 0 → node T′ s (suc l) j ≡ 0
-    unfolding same
     closed-here j z = way-here j ∙ go (same s (suc (suc l)) (suc i) j) refl
       where
         go : (b : Bool) → same s (suc (suc l)) (suc i) j ≡ b → cond b (suc (number (T (suc l)))) (node T s (suc l) j) ≡ 0
         go true q =
-            absurd (omega (arith, node-same T s l (suc i) j (and-right (eqb (getD s (suc i - suc (suc l)) 0) (getD s (j - suc (suc l)) 0)) (same s (suc l) (suc i) j) q)))
+            absurd (omega (arith, node-same T s l (suc i) j (same-shorter s (suc l) (suc i) j q)))
         go false q = w .closed l j hl z
 
     closed-next : (j : ℕ) → node T′ s (suc l) j ≡ 0 → node T s (suc l) j ≡ 0
@@ -116,65 +134,45 @@ module _ {N : ℕ} {s : List ℕ} {h T : ℕ → List ℕ} (w : Kept N s h T) (b
         (λ j a z. way-other (suc (suc l)) j a (λ r. omega arith) ∙ w .closed (suc l) j a (closed-next j z))
         (λ d f g j a z. way-other (suc d) j a (λ r. f (omega arith)) ∙ w .closed d j a (sym (way-other d j (omega arith) g) ∙ z))
 
-    pub way-kept : Kept N s h T′
-    way-kept = record { root = subst Table (sym (others 0 (λ z. omega arith))) (w .root); trie = keyed; stores = stored; closed = shut }
+    way-kept : Kept N s h T′
+    way-kept = record { root = ap length (others 0 (λ z. omega arith)) ∙ w .root; trie = keyed; stores = stored; closed = shut }
 
-  -- ---- it is made if it may be and is not there
-  module _ (may : Bool) (small : may ≡ true → 1 ≤ node T s l (suc i)) (T′ : ℕ → List ℕ)
-      (here : T′ (suc l) ≡ grown (T (suc l)) (keyOf (node T s l i) (getD s i 0)) may) (others : (j : ℕ) → (j ≡ suc l → ⊥) → T′ j ≡ T j) where
-    grow-same : (node T s (suc l) (suc i) ≡ 0 → may ≡ false) → T′ (suc l) ≡ T (suc l)
-    grow-same f = here ∙ go (ℕ-discrete (entryOf (T (suc l)) k) 0)
-      where
-        go : Dec (entryOf (T (suc l)) k ≡ 0) → grown (T (suc l)) k may ≡ T (suc l)
-        go (yes z) = grown-not (T (suc l)) k may (f (node-next T s l i ∙ z))
-        go (no g) = grown-there (T (suc l)) k may g
+  -- ---- it is made where it is missing, if there is room
+  module _ (newer : 1 ≤ node T s l (suc i)) (T′ : ℕ → List ℕ)
+      (here : T′ (suc l) ≡ grown (T (suc l)) (keyOf (node T s l i) (getD s i 0))) (others : (j : ℕ) → (j ≡ suc l → ⊥) → T′ j ≡ T j) where
+    -- what was found: the tables that are left, and that the word is missing in them only where there was no room
+    abbrev Found : Type 0
+    Found = Grew N s h T l i T′ × (node T′ s (suc l) (suc i) ≡ 0 → room ≤ number (T (suc l)))
 
-    pub grow-none : (node T s (suc l) (suc i) ≡ 0 → may ≡ false) → T′ ≡ T
-    grow-none f = fun-ext (λ j. go j (ℕ-discrete j (suc l)))
+    stays : T′ (suc l) ≡ T (suc l) → (node T s (suc l) (suc i) ≡ 0 → room ≤ number (T (suc l))) → Found
+    stays e f =
+        subst (λ (U : ℕ → List ℕ). Grew N s h T l i U × (node U s (suc l) (suc i) ≡ 0 → room ≤ number (T (suc l))))
+        (sym (fun-ext (λ j. go j (ℕ-discrete j (suc l))))) (grew-not l i w, f)
       where
         go : (j : ℕ) → Dec (j ≡ suc l) → T′ j ≡ T j
-        go j (yes e) = subst (λ (j : ℕ). T′ j ≡ T j) (sym e) (grow-same f)
+        go j (yes q) = subst (λ (j : ℕ). T′ j ≡ T j) (sym q) e
         go j (no g) = others j g
 
-    grow-cases :
-        {P : Type 0} → (may ≡ true → node T s (suc l) (suc i) ≡ 0 → T′ (suc l) ≡ added (T (suc l)) k → P) →
-        ((node T s (suc l) (suc i) ≡ 0 → may ≡ false) → P) → P
-    grow-cases {P} made stays = go may refl (ℕ-discrete (node T s (suc l) (suc i)) 0)
+    made : (z : node T s (suc l) (suc i) ≡ 0) (fits : number (T (suc l)) < room) → T′ (suc l) ≡ added (T (suc l)) k → Found
+    made z fits e = (
+      record {
+        kept = way-kept fits newer z T′ e others;
+        others = way-other fits newer z T′ e others;
+        there = λ j g. way-here fits newer z T′ e others j ∙ go j g (same s (suc (suc l)) (suc i) j) refl;
+        more = inr (z, ap number e ∙ number-more (w .trie l hl .table) k fits (sym (node-next T s l i) ∙ z) limit);
+      },
+      λ y. absurd (omega (arith, way-node fits newer z T′ e others)),
+    )
       where
-        go : (b : Bool) → may ≡ b → Dec (node T s (suc l) (suc i) ≡ 0) → P
-        go true b (yes z) = made b z (here ∙ grown-new (T (suc l)) k may b (sym (node-next T s l i) ∙ z))
-        go true b (no f) = stays (λ z. absurd (f z))
-        go false b d = stays (λ z. b)
-
-    pub grow-kept : Kept N s h T′
-    grow-kept = grow-cases (λ b z e. way-kept (small b) z T′ e others) (λ f. subst (Kept N s h) (sym (grow-none f)) w)
-
-    pub grow-other : (d j : ℕ) → d ≤ N → (d ≡ suc l → ⊥) → node T′ s d j ≡ node T s d j
-    grow-other d j a g = grow-cases (λ b z e. way-other (small b) z T′ e others d j a g) (λ f. ap (λ (T : ℕ → List ℕ). node T s d j) (grow-none f))
-
-    -- a word that was there keeps its number
-    pub grow-waits : (j : ℕ) → (node T s (suc l) j ≡ 0 → ⊥) → node T′ s (suc l) j ≡ node T s (suc l) j
-    grow-waits j g =
-        grow-cases (λ b z e. way-here (small b) z T′ e others j ∙ go z (same s (suc (suc l)) (suc i) j) refl)
-        (λ f. ap (λ (T : ℕ → List ℕ). node T s (suc l) j) (grow-none f))
-      where
-        go : node T s (suc l) (suc i) ≡ 0 → (b : Bool) → same s (suc (suc l)) (suc i) j ≡ b →
+        go : (j : ℕ) → (node T s (suc l) j ≡ 0 → ⊥) → (b : Bool) → same s (suc (suc l)) (suc i) j ≡ b →
             cond b (suc (number (T (suc l)))) (node T s (suc l) j) ≡ node T s (suc l) j
-        go z true q = absurd (g (sym (node-same T s (suc l) (suc i) j q) ∙ z))
-        go z false q = refl
+        go j g true q = absurd (g (sym (node-same T s (suc l) (suc i) j q) ∙ z))
+        go j g false q = refl
 
-    pub grow-some : may ≡ true → 1 ≤ node T′ s (suc l) (suc i)
-    grow-some b = grow-cases (λ b z e. omega (arith, way-node (small b) z T′ e others)) (λ f. go f (ℕ-discrete (node T s (suc l) (suc i)) 0))
+    pub grew : Found
+    grew = go (ℕ-discrete (node T s (suc l) (suc i)) 0) (decLt (number (T (suc l))) room)
       where
-        go : (node T s (suc l) (suc i) ≡ 0 → may ≡ false) → Dec (node T s (suc l) (suc i) ≡ 0) → 1 ≤ node T′ s (suc l) (suc i)
-        go f (yes z) = absurd (let n = f z in let y : _≡_ {A = ℕ} 0 1 = cc in omega arith)
-        go f (no g) = omega (arith, grow-waits (suc i) g)
-
-    pub grow-number : number (T′ (suc l)) ≤ suc (number (T (suc l)))
-    grow-number = grow-cases (λ b z e. omega (arith, ap number e, number-more (w .trie l hl .table) k fits (sym (node-next T s l i) ∙ z) limit)) (λ f. omega (arith, ap number (grow-same f)))
-
-    -- the pair's count
-    pub grow-value : value (T′ (suc l)) counts (node T′ s (suc l) (suc i)) ≡ count s (suc l) (h l) i (getD s i 0)
-    grow-value =
-        ap (value (T′ (suc l)) counts) (node-next T′ s l i)
-        ∙ sym (grow-kept .stores l hl .counts-are i (getD s i 0) (bytes i))
+        go : Dec (node T s (suc l) (suc i) ≡ 0) → Dec (number (T (suc l)) < room) → Found
+        go (no f) e = stays (here ∙ grown-there (T (suc l)) k (λ z. f (node-next T s l i ∙ z))) (λ z. absurd (f z))
+        go (yes z) (no f) = stays (here ∙ grown-full (T (suc l)) k (omega arith)) (λ y. omega arith)
+        go (yes z) (yes a) = made z a (here ∙ grown-new (T (suc l)) k a (sym (node-next T s l i) ∙ z))

@@ -8,11 +8,11 @@ use native.Mathlib.Omega.{arith}
 use lib.ListN.{getD}
 use lib.Dec.{eqb}
 use borrow.Author.Tests.{eqb-true, eq-eqb, ne-eqb}
-use Rattle.table.specs.Table.{number, entryOf, room, keyLimit, added}
+use Rattle.table.specs.inner.Table.{number, entryOf, room, keyLimit, added}
 use Rattle.table.proofs.Found.{found-within, found-key, found-once}
 use Rattle.table.proofs.Laws.{found-after}
 use Rattle.mmc_store.specs.Counts.{same}
-use Rattle.mmc_store.specs.Words.{keyOf, node, words, Keyed, Trie}
+use Rattle.mmc_store.specs.inner.Words.{keyOf, node, words, Keyed, Trie}
 use Rattle.mmc_store.proofs.Same.{and-left, and-right, same-newest}
 
 -- ---- keys

@@ -8,9 +8,9 @@ use native.Mathlib.Decide.{decLt}
 use lib.ListN.{length, getD, take, drop, length-drop, drop-of-length-le, replicate, List·getD-append, List·getD-eq-default}
 use lib.Seq.{take-at, drop-at, getD-take, getD-drop, getD-append-add, ext-getD, length-take-le}
 use borrow.Rule.Slice.PartMut.{putMid, postOf, same-len-mid}
-use Rattle.mmc_store.specs.Words.{counts, bests}
-use Rattle.mmc_store.specs.Places.{part, tables, Changed, Tallied}
-use Rattle.table.specs.Table.{size, value, valued}
+use Rattle.mmc_store.specs.inner.Words.{counts, bests}
+use Rattle.mmc_store.specs.inner.Places.{part, tables, Changed, Tallied}
+use Rattle.table.specs.inner.Table.{size, value, valued}
 
 module _ (xs ys : List ℕ) (a k : ℕ) (fits : a + k ≤ length xs) (long : length ys ≡ k) where
   head-long : length (take a xs) ≡ a
@@ -31,7 +31,9 @@ module _ (xs ys : List ℕ) (a k : ℕ) (fits : a + k ≤ length xs) (long : len
       go : Dec (i < a) → Dec (i < a + k) → getD (putMid a k xs ys) i 0 ≡ getD xs i 0
       go (yes l) d = before i l
       go (no n) (yes l) = absurd (f (omega arith) l)
-      go (no n) (no u) = subst (λ (i : ℕ). getD (putMid a k xs ys) i 0 ≡ getD xs i 0) (let z : a + (k + (i - (a + k))) ≡ i = omega arith in z) (after (i - (a + k)))
+      go (no n) (no u) =
+          subst (λ (i : ℕ). getD (putMid a k xs ys) i 0 ≡ getD xs i 0) (let z : a + (k + (i - (a + k))) ≡ i = omega arith in z)
+          (after (i - (a + k)))
 
 pub part-is : (l k : ℕ) (m : List ℕ) → k ≡ size → take k (drop (l * size) m) ≡ part l m
 unfolding part
@@ -108,7 +110,8 @@ zeros-at zero (suc i) = refl
 zeros-at (suc n) zero = refl
 zeros-at (suc n) (suc i) = zeros-at n i
 
-pub zeros-part : (n j : ℕ) (m : List ℕ) → j < n → length m ≡ n * size → m ≡ replicate (length m) 0 → (length (part j m) ≡ size) × ((a : ℕ) → getD (part j m) a 0 ≡ 0)
+pub zeros-part : (n j : ℕ) (m : List ℕ) → j < n → length m ≡ n * size → m ≡ replicate (length m) 0 →
+    (length (part j m) ≡ size) × ((a : ℕ) → getD (part j m) a 0 ≡ 0)
 zeros-part n j m l e z = (part-length n j m l e, λ a. go a (decLt a size))
   where
     go : (a : ℕ) → Dec (a < size) → getD (part j m) a 0 ≡ 0
@@ -122,7 +125,9 @@ lent t = omega arith
 pub lent-is : (t : ℕ) (m : List ℕ) → take (t * size + size - t * size) (drop (t * size) m) ≡ part t m
 lent-is t m = part-is t (t * size + size - t * size) m (lent t)
 
-pub back : (n t : ℕ) (xs ys : List ℕ) → t < n → length xs ≡ n * size → length ys ≡ length (take (t * size + size - t * size) (drop (t * size) xs)) → (new : List ℕ) → ys ≡ new → Changed t xs (putMid (t * size) (t * size + size - t * size) xs ys) new
+pub back : (n t : ℕ) (xs ys : List ℕ) → t < n → length xs ≡ n * size →
+    length ys ≡ length (take (t * size + size - t * size) (drop (t * size) xs)) → (new : List ℕ) → ys ≡ new →
+    Changed t xs (putMid (t * size) (t * size + size - t * size) xs ys) new
 back n t xs ys l e is new q = put-changed n t (t * size + size - t * size) xs ys l (lent t) e is new q
 
 -- ---- a pair was counted, and then the best of its context raised

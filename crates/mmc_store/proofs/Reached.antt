@@ -4,7 +4,7 @@ use mathlib.Core.Path.{_≡_}
 use native.Mathlib.Omega.{arith}
 use native.Mathlib.Decide.{decLt}
 use borrow.Author.Tests.{lt-ltb, le-ltb}
-use Rattle.mmc_store.specs.Places.{reached}
+use Rattle.mmc_store.specs.inner.Places.{reached}
 
 pub reached-waits : (i k j : ℕ) → k ≤ j → reached i k j ≡ i
 reached-waits i k j h = rw (le-ltb j k h)

@@ -1,46 +1,38 @@
 -- The places, one after the other: the lent numbers keep the levels, and the race goes on. At the end the first numbers of the space are cleared.
 -- Assumes nothing.
-use Prim.Native.Nat.{ℕ, zero, suc, _+_, _-_, _*_, _≤_, _<_}
+use Prim.Native.Nat.{ℕ, suc, _+_, _-_, _*_, _≤_, _<_}
 use mathlib.Core.Path.{_≡_, ap, _∙_}
 use mathlib.Core.List.{List, _++_}
 use native.Mathlib.Omega.{arith}
 use native.Mathlib.Decide.{decLt}
-use lib.ListN.{length, getD, replicate, take, drop, length-replicate, getD-replicate}
+use lib.ListN.{length, getD, replicate, take, drop, length-replicate}
 use lib.Seq.{length-take-le, length-front, drop-append-add, drop-drop}
 use borrow.Author.Tests.{le-ltb}
 use Rattle.capture.specs.Limit.{symbolLimit}
-use Rattle.race.specs.Race.{silent, judge, scored}
-use Rattle.race.specs.Held.{silence, heard, heardFrom, after, tallied, counterLimit, Countable, Scorable}
+use Rattle.race.specs.Race.{silent, judge, scored, sample}
+use Rattle.race.specs.inner.Held.{heard, heardFrom, after, tallied, counterLimit, Countable, Scorable}
 use Rattle.race.specs.declared.Tally.{Tally}
 use Rattle.race.proofs.Step.{Raced, race-starts, race-length, race-winner, race-countable, race-scorable, race-idle, race-step}
 use Rattle.mmc_bits.specs.Levels.{firstPlace}
-use Rattle.mmc_bits.specs.Mmc.{truth}
-use Rattle.table.specs.Table as T
+use Rattle.table.specs.inner.Table as T
 use Rattle.mmc_store.specs.Levels.{level, guess}
-use Rattle.mmc_store.specs.Places.{tables, reached, Held, Spots, Stands, Place, Quiet, Said}
-use Rattle.mmc_store.specs.Mmc.{tallyOf}
+use Rattle.mmc_store.specs.inner.Places.{tables, reached, Held, Spots, Stands, Place, Said}
+use Rattle.mmc_store.specs.inner.Tally.{tallyOf}
 use Rattle.mmc_store.specs.Space.{size, final}
+use Rattle.mmc_store.proofs.Small.{limit-is}
 use Rattle.mmc_store.proofs.Few.{few-empty}
 use Rattle.mmc_store.proofs.Telling.{heard-guess, quiet-guess}
 use Rattle.mmc_store.proofs.Parts.{zeros-at, zeros-part}
 use Rattle.mmc_store.proofs.Kept.{empty-kept}
 
-pub limit-fits : (n : ℕ) → n ≤ symbolLimit → n ≤ 16777216
-unfolding symbolLimit
-limit-fits n l = omega arith
-
--- the guesses, before a place
-pub quiet-start : (n : ℕ) → Quiet n (replicate n silence)
-quiet-start n = record { full = length-replicate n silence; quiet = λ j h. getD-replicate n j silence 0 h }
-
 -- what the code holds before place i
-pub record Run (n cap : ℕ) (s space entries nodes : List ℕ) (live : ℕ) (scores : List ℕ) (winner : ℕ) (tally : Tally) (i : ℕ) : Type 0 where
+pub record Run (n cap : ℕ) (s space entries nodes scores : List ℕ) (winner : ℕ) (tally : Tally) (i : ℕ) : Type 0 where
   pub some : 0 < n
-  pub short : length s ≤ 16777216
+  pub short : length s ≤ symbolLimit
   pub bytes : (j : ℕ) → getD s j 0 < 256
   pub within : i ≤ length s
-  pub stands : Stands n cap s i live entries nodes space
-  pub raced : Raced n firstPlace (guess cap s) (truth s) (i - firstPlace) winner scores tally
+  pub stands : Stands n cap s i entries nodes space
+  pub raced : Raced n firstPlace (guess cap s) (sample s) (i - firstPlace) winner scores tally
 
 -- ---- k numbers were cleared, and no place is counted
 module _ (n cap k : ℕ) (s m : List ℕ) (long : k ≡ suc n * T.size) (clear : m ≡ replicate k 0) where
@@ -63,7 +55,7 @@ module _ (n cap k : ℕ) (s m : List ℕ) (long : k ≡ suc n * T.size) (clear :
     roomy = λ l a. rw (reached-start l, table-start (suc l) a .1 T.numberAt) (few-empty (suc n) cap s (suc l));
   }
 
-  spots-start : Spots n (tables m) s 0 n (replicate (suc n) 0)
+  spots-start : Spots n cap (tables m) s 0 (replicate (suc n) 0)
   spots-start = record {
     full = length-replicate (suc n) 0;
     each = λ l a b. absurd (omega arith);
@@ -71,26 +63,20 @@ module _ (n cap k : ℕ) (s m : List ℕ) (long : k ≡ suc n * T.size) (clear :
     beyond = λ l a. zeros-at (suc n) l;
   }
 
-  pub run-start : 0 < n →
-      length s ≤ 16777216 →
-      ((j : ℕ) → getD s j 0 < 256) →
-      Run n cap s m (replicate n 0) (replicate (suc n) 0) n (replicate n 0) 0 (record { hits = 0; run = 0; longest = 0 }) 0
+  pub run-start : 0 < n → length s ≤ symbolLimit → ((j : ℕ) → getD s j 0 < 256) →
+      Run n cap s m (replicate n 0) (replicate (suc n) 0) (replicate n 0) 0 (record { hits = 0; run = 0; longest = 0 }) 0
   run-start some short bytes = record {
     some = some;
     short = short;
     bytes = bytes;
     within = omega arith;
-    stands = record {
-      held = held-start;
-      still = record { within = omega arith; full = length-replicate n 0; capped = λ j a b. absurd (omega arith) };
-      spots = spots-start;
-    };
-    raced = race-starts n firstPlace (guess cap s) (truth s);
+    stands = record { held = held-start; spots = spots-start };
+    raced = race-starts n firstPlace (guess cap s) (sample s);
   }
 
 -- ---- one place
-module _ {n cap : ℕ} {s space es nodes scores : List ℕ} {live winner : ℕ} {tally : Tally} {i : ℕ}
-    (r : Run n cap s space es nodes live scores winner tally i) where
+module _ {n cap : ℕ} {s space es nodes scores : List ℕ} {winner : ℕ} {tally : Tally} {i : ℕ}
+    (r : Run n cap s space es nodes scores winner tally i) where
   pub winner-lt : winner < n
   winner-lt = race-winner (r .raced) (r .some)
 
@@ -102,7 +88,7 @@ module _ {n cap : ℕ} {s space es nodes scores : List ℕ} {live winner : ℕ} 
     place-of = record { within = more; short = r .short; bytes = r .bytes }
 
     few : i - firstPlace < counterLimit
-    few = omega (arith, r .short)
+    few = omega (arith, r .short, limit-is)
 
     pub countable : Countable tally (getD s i 0)
     countable = race-countable (r .raced) (getD s i 0) (r .bytes i) few
@@ -120,10 +106,10 @@ module _ {n cap : ℕ} {s space es nodes scores : List ℕ} {live winner : ℕ} 
       module _ {winner′ : ℕ} {scores′ : List ℕ} {tally′ : Tally}
           (se : after winner′ scores′ ≡ scored (heardFrom gs) (getD s i 0) (after winner scores) (length gs))
           (te : tally′ ≡ tallied (judge (heardFrom gs winner) (getD s i 0)) tally) where
-        raced-next : Raced n firstPlace (guess cap s) (truth s) (i + 1 - firstPlace) winner′ scores′ tally′
+        raced-next : Raced n firstPlace (guess cap s) (sample s) (i + 1 - firstPlace) winner′ scores′ tally′
         raced-next = go (decLt i firstPlace)
           where
-            go : Dec (i < firstPlace) → Raced n firstPlace (guess cap s) (truth s) (i + 1 - firstPlace) winner′ scores′ tally′
+            go : Dec (i < firstPlace) → Raced n firstPlace (guess cap s) (sample s) (i + 1 - firstPlace) winner′ scores′ tally′
             go (yes l) =
                 let e : i + 1 - firstPlace ≡ i - firstPlace = omega arith in
                 rw e (race-idle (r .raced) (getD s i 0) gs (r .some) (said .full) (silent-before l) winner′ scores′ tally′ se te)
@@ -132,9 +118,8 @@ module _ {n cap : ℕ} {s space es nodes scores : List ℕ} {live winner : ℕ} 
                 let p : firstPlace + (i - firstPlace) ≡ i = omega arith in
                 rw e (race-step (r .raced) (getD s i 0) gs (r .some) (said .full) (rw p) (rw p says) winner′ scores′ tally′ se te)
 
-        pub run-next : {space′ es′ nodes′ : List ℕ} {live′ : ℕ} →
-            Stands n cap s (i + 1) live′ es′ nodes′ space′ →
-            Run n cap s space′ es′ nodes′ live′ scores′ winner′ tally′ (i + 1)
+        pub run-next : {space′ es′ nodes′ : List ℕ} → Stands n cap s (i + 1) es′ nodes′ space′ →
+            Run n cap s space′ es′ nodes′ scores′ winner′ tally′ (i + 1)
         run-next stands = record {
           some = r .some;
           short = r .short;

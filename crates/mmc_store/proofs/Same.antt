@@ -18,6 +18,10 @@ pub and-right : (a b : Bool) → (a && b) ≡ true → b ≡ true
 and-right true b e = e
 and-right false b e = let z : _≡_ {A = ℕ} 0 1 = cc in absurd (let f : 1 ≤ 0 = omega arith in not-suc-le-zero f)
 
+pub and-none : (a b : Bool) → b ≡ false → (a && b) ≡ false
+and-none true b e = e
+and-none false b e = refl
+
 and-swap : (a b c : Bool) → (a && (b && c)) ≡ (b && (a && c))
 and-swap true b c = refl
 and-swap false true c = refl
@@ -28,6 +32,10 @@ module _ (s : List ℕ) where
   unfolding same
   same-refl zero a = refl
   same-refl (suc n) a = rw (eq-eqb (getD s (a - suc n) 0) (getD s (a - suc n) 0) refl) (same-refl n a)
+
+  pub same-shorter : (L a b : ℕ) → same s (suc L) a b ≡ true → same s L a b ≡ true
+  unfolding same
+  same-shorter L a b h = and-right (eqb (getD s (a - suc L) 0) (getD s (b - suc L) 0)) (same s L a b) h
 
   -- the newest symbol, and the contexts before it
   pub same-newest : (L a b : ℕ) → same s (suc L) a b ≡ (eqb (getD s (a - 1) 0) (getD s (b - 1) 0) && same s L (a - 1) (b - 1))

@@ -6,14 +6,15 @@ use mathlib.Core.Bool.{Bool, true, false, cond, _&&_}
 use mathlib.Core.List.{List, _∷_}
 use native.Mathlib.Omega.{arith}
 use native.Mathlib.Decide.{ℕ-discrete}
-use lib.ListN.{getD}
+use lib.ListN.{getD, length}
 use lib.Dec.{eqb}
 use borrow.Author.Tests.{eqb-true, eq-eqb, ne-eqb}
-use Rattle.table.specs.Table.{Table, number, value, entryOf, room, added, valued, keyLimit}
+use Rattle.table.specs.inner.Table.{Table, size, number, value, entryOf, room, added, valued, keyLimit}
 use Rattle.table.proofs.Found.{found-within, found-once}
-use Rattle.table.proofs.Laws.{found-after, value-old, value-new, every-key, added-table, number-kept, value-here, value-there, key-kept, found-kept, valued-table}
+use Rattle.table.proofs.Laws.{found-after, value-old, value-new, every-key, added-table}
+use Rattle.table.proofs.Laws.{number-kept, value-here, value-there, key-kept, found-kept, valued-table}
 use Rattle.mmc_store.specs.Counts.{same, count}
-use Rattle.mmc_store.specs.Words.{counts, bests, keyOf, best, Keyed, Stores}
+use Rattle.mmc_store.specs.inner.Words.{counts, bests, keyOf, best, Keyed, Stores}
 use Rattle.mmc_store.proofs.Nodes.{key-one, no-key}
 use Rattle.mmc_store.proofs.Best.{best-here, best-there}
 
@@ -24,7 +25,7 @@ keyed-more l k = record { table = k .table; from = k .from; to = λ e h. omega (
 
 -- an entry whose number is there is made
 pub keyed-added :
-    {n : ℕ} {m : List ℕ} → Keyed n m → (c x : ℕ) → x < 256 → 1 ≤ c → c ≤ n → n < room → entryOf m (keyOf c x) ≡ 0 → number m < room →
+    {n : ℕ} {m : List ℕ} → Keyed n m → (c x : ℕ) → x < 256 → 1 ≤ c → c ≤ n → n ≤ room → entryOf m (keyOf c x) ≡ 0 → number m < room →
     Keyed n (added m (keyOf c x))
 keyed-added {n} {m} k c x hx lo hi small new fits = record {
   table = added-table (k .table) (keyOf c x) fits new (omega arith);
@@ -32,11 +33,12 @@ keyed-added {n} {m} k c x hx lo hi small new fits = record {
   to = every-key (k .table) (keyOf c x) fits new (omega arith) (λ y. y < 256 * suc n) (omega arith) (k .to);
 }
 
-pub keyed-valued : {n : ℕ} {m : List ℕ} → Keyed n m → (j e v : ℕ) → j < 2 → Keyed n (valued m j (suc e) v)
-keyed-valued {n} {m} k j e v h = record {
-  table = valued-table (k .table) j (suc e) v h (λ z. omega arith);
-  from = λ d l. rw (key-kept (k .table) j (suc e) v h (suc d)) (k .from d (omega (arith, number-kept (k .table) j (suc e) v)));
-  to = λ d l. rw (key-kept (k .table) j (suc e) v h (suc d)) (k .to d (omega (arith, number-kept (k .table) j (suc e) v)));
+-- an entry has another value
+pub keyed-valued : {n : ℕ} {m : List ℕ} → Keyed n m → (j e v : ℕ) → j < 2 → e < number m → Keyed n (valued m j (suc e) v)
+keyed-valued {n} {m} k j e v h a = record {
+  table = valued-table m j (suc e) v h (k .table) (omega arith) a;
+  from = λ d l. rw (key-kept m j (suc e) v h (suc d)) (k .from d (omega (arith, number-kept m j (suc e) v)));
+  to = λ d l. rw (key-kept m j (suc e) v h (suc d)) (k .to d (omega (arith, number-kept m j (suc e) v)));
 }
 
 -- ---- tables that keep the same
@@ -64,22 +66,23 @@ module _ {p : List ℕ} (t : Table p) (k d n : ℕ) (is : entryOf p k ≡ suc d)
   p″ = valued p counts (suc d) (n + 1)
 
   pair-counted : (q : ℕ) → value p″ counts (entryOf p″ q) ≡ value p counts (entryOf p q) + cond (eqb k q) 1 0
-  pair-counted q = ap (value p″ counts) (found-kept t counts (suc d) (n + 1) (omega arith) q) ∙ go (eqb k q) refl
+  pair-counted q = ap (value p″ counts) (found-kept p counts (suc d) (n + 1) (omega arith) q) ∙ go (eqb k q) refl
     where
       go : (b : Bool) → eqb k q ≡ b → value p″ counts (entryOf p q) ≡ value p counts (entryOf p q) + cond b 1 0
       go true e =
           rw (sym (ap (entryOf p) (eqb-true k q e)) ∙ is)
-          (value-here t counts (suc d) (n + 1) (omega arith) (omega (arith, t .few, found-within p k)) ∙ ap (λ (a : ℕ). a + 1) n-is)
+          (value-here p counts (suc d) (n + 1) (omega arith) (t .long) (omega (arith, t .few, found-within p k)) ∙ ap (λ (a : ℕ). a + 1) n-is)
       go false e =
-          value-there t counts (suc d) (n + 1) counts (entryOf p q)
+          value-there p counts (suc d) (n + 1) counts (entryOf p q)
           (λ r. (let a : entryOf p q ≡ suc d = omega arith in
           let u = eq-eqb k q (found-once p k q d is a) in let z : _≡_ {A = ℕ} 0 1 = cc in omega arith))
           ∙ omega arith
 
-module _ {s : List ℕ} {L : ℕ} {h : List ℕ} {at : ℕ → ℕ} {c p : List ℕ} (w : Stores s L h at c p) (t : Table c) (i : ℕ)
+module _ {s : List ℕ} {L : ℕ} {h : List ℕ} {at : ℕ → ℕ} {c p : List ℕ} (w : Stores s L h at c p) (i : ℕ)
     (one : (j : ℕ) → same s L i j ≡ true → at i ≡ at j) where
   -- ---- the context of i is made, without a count
-  module _ (keyed : Keyed (number c) p) (within : (j : ℕ) → at j ≤ number c) (new : at i ≡ 0) (k : ℕ) (fits : number c < room) (absent : entryOf c k ≡ 0) (small : k < keyLimit)
+  module _ (t : Table c) (keyed : Keyed (number c) p) (within : (j : ℕ) → at j ≤ number c) (new : at i ≡ 0) (k : ℕ) (fits : number c < room)
+      (absent : entryOf c k ≡ 0) (small : k < keyLimit)
       (at′ : ℕ → ℕ) (at-is : (j : ℕ) → at′ j ≡ cond (same s L i j) (suc (number c)) (at j)) where
     way-counts : (j x : ℕ) → x < 256 → (b : Bool) → same s L i j ≡ b → count s L h j x ≡ value p counts (entryOf p (keyOf (at′ j) x))
     way-counts j x l false q = w .counts-are j x l ∙ ap (λ (n : ℕ). value p counts (entryOf p (keyOf n x))) (sym (at-is j ∙ rw q))
@@ -91,9 +94,11 @@ module _ {s : List ℕ} {L : ℕ} {h : List ℕ} {at : ℕ → ℕ} {c p : List 
 
     way-bests : (j : ℕ) (b : Bool) → same s L i j ≡ b → best s L h j ≡ value (added c k) bests (at′ j)
     way-bests j false q =
-        w .bests-are j ∙ sym (value-old t k fits absent small bests (at j) (omega arith) (within j)) ∙ ap (value (added c k) bests) (sym (at-is j ∙ rw q))
+        w .bests-are j ∙ sym (value-old t k fits absent small bests (at j) (omega arith) (within j))
+        ∙ ap (value (added c k) bests) (sym (at-is j ∙ rw q))
     way-bests j true q =
-        w .bests-are j ∙ ap (value c bests) (sym (one j q) ∙ new) ∙ t .none bests (omega arith) ∙ sym (value-new t k fits absent small bests (omega arith))
+        w .bests-are j ∙ ap (value c bests) (sym (one j q) ∙ new) ∙ t .none bests (omega arith)
+        ∙ sym (value-new t k fits absent small bests (omega arith))
         ∙ ap (value (added c k) bests) (sym (at-is j ∙ rw q))
 
     pub way-stores : Stores s L h at′ (added c k) p
@@ -104,7 +109,7 @@ module _ {s : List ℕ} {L : ℕ} {h : List ℕ} {at : ℕ → ℕ} {c p : List 
 
   -- ---- the place i is counted: its context has the number e + 1, and its pair d + 1
   module _ (bytes : (j : ℕ) → getD s j 0 < 256) (e : ℕ) (is : at i ≡ suc e) (apart : (j : ℕ) → at j ≡ suc e → same s L i j ≡ true)
-      (few : suc e ≤ room) (pairs : Table p) (d n : ℕ) (pair-is : entryOf p (keyOf (suc e) (getD s i 0)) ≡ suc d)
+      (long : length c ≡ size) (few : suc e ≤ room) (pairs : Table p) (d n : ℕ) (pair-is : entryOf p (keyOf (suc e) (getD s i 0)) ≡ suc d)
       (n-is : n ≡ value p counts (suc d)) where
     abbrev x : ℕ
     x = getD s i 0
@@ -143,10 +148,10 @@ module _ {s : List ℕ} {L : ℕ} {h : List ℕ} {at : ℕ → ℕ} {c p : List 
     count-bests : (j : ℕ) (b : Bool) → same s L i j ≡ b → best s L (i ∷ h) j ≡ value c′ bests (at j)
     count-bests j true q =
         best-here s L h i j (bytes i) q
-        ∙ rw (count-here j q, w .bests-are j, sym (one j q) ∙ is) (sym (value-here t bests (suc e) v (omega arith) few))
+        ∙ rw (count-here j q, w .bests-are j, sym (one j q) ∙ is) (sym (value-here c bests (suc e) v (omega arith) long few))
     count-bests j false q =
         best-there s L h i j q ∙ w .bests-are j
-        ∙ sym (value-there t bests (suc e) v bests (at j)
+        ∙ sym (value-there c bests (suc e) v bests (at j)
         (λ r. (let a : at j ≡ suc e = omega arith in let u = apart j a in let z : _≡_ {A = ℕ} 0 1 = cc in omega arith)))
 
     pub count-stores : Stores s L (i ∷ h) at c′ p′

@@ -2,16 +2,16 @@
 -- silence where one has not. Assumes nothing.
 use Prim.Native.Nat.{ℕ, suc, _≤_}
 use mathlib.Core.Path.{_≡_, refl}
-use mathlib.Core.Bool.{Bool, true, false, cond, _&&_}
+use mathlib.Core.Bool.{Bool, true, false, cond}
 use mathlib.Core.List.{List}
 use lib.Dec.{ltb}
 use borrow.Author.Tests.{lt-ltb}
 use Rattle.race.specs.Race.{says, silent}
-use Rattle.race.specs.Held.{silence, heard}
-use Rattle.mmc_bits.specs.Steps.{spoken}
+use Rattle.race.specs.inner.Held.{silence, heard}
+use Rattle.mmc_bits.specs.inner.Steps.{spoken}
 use Rattle.mmc_store.specs.Counts.{present, predicted}
 use Rattle.mmc_store.specs.Levels.{found, level, guess}
-use Rattle.mmc_store.proofs.Same.{and-right}
+use Rattle.mmc_store.proofs.Same.{and-right, and-none}
 use Rattle.mmc_store.proofs.Entries.{level-early}
 use Rattle.mmc_store.proofs.Best.{predicted-lt}
 
@@ -50,8 +50,4 @@ module _ (cap : ℕ) (s : List ℕ) (i l : ℕ) where
   -- a level as long as the place, or longer, is silent
   pub quiet-guess : i ≤ suc l → spoken (guess cap s i l) ≡ silence
   unfolding found present
-  quiet-guess h = said-absent (rw (level-early cap s i (suc l) h) (go (found s (level cap s i) i l)))
-    where
-      go : (b : Bool) → (b && false) ≡ false
-      go true = refl
-      go false = refl
+  quiet-guess h = said-absent (rw (level-early cap s i (suc l) h) (and-none (found s (level cap s i) i l) false refl))

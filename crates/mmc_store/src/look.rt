@@ -1,15 +1,15 @@
-// What the levels say of a place.
+// What a level says of a place.
 use crate::Context;
 use crate::tables::value_in;
 ghost use mathlib.Core.Path.{_≡_};
 ghost use Prim.Native.Nat.{_<_, _≤_};
 ghost use lib.ListN.{length};
-ghost use Rattle.table.specs.Table as T;
-ghost use Rattle.table.specs.Table.{room};
-ghost use Rattle.mmc_bits.specs.Levels.{levels, cap};
-ghost use Rattle.mmc_store.specs.Words.{bests};
-ghost use Rattle.mmc_store.specs.Answers.{contextOf};
-ghost use Rattle.mmc_store.specs.Places.{part, tablesMost, store, Looks, Looked};
+ghost use Rattle.table.specs.inner.Table as T;
+ghost use Rattle.table.specs.inner.Table.{room};
+ghost use Rattle.mmc_bits.specs.Levels.{levels};
+ghost use Rattle.mmc_store.specs.inner.Words.{bests};
+ghost use Rattle.mmc_store.specs.inner.Answers.{contextOf};
+ghost use Rattle.mmc_store.specs.inner.Places.{part, tablesMost, store, Says};
 
 // The context c of level l + 1: a word of which nothing was counted is only a way to longer ones.
 fn lookup(space: &[u32], l: usize, c: usize) -> Context
@@ -24,31 +24,21 @@ fn lookup(space: &[u32], l: usize, c: usize) -> Context
     Context::Present(x)
 }
 
-// What each level says of `place` is written to `guesses`, where every shorter context is present too. How many are is returned.
-pub fn look(
-    s: &[u8],
-    space: &[u32],
-    nodes: &[usize; 17],
-    guesses: &mut [u16; 16],
-    place: usize,
-    top: usize,
-) -> usize
-    requires { ⌜ Looks levels cap (now s) place (now nodes) (now guesses) (now space) ⌝ }
-    requires { ⌜ (top ≤ levels) × (top ≤ place) × (top < levels → place ≤ top) ⌝ }
-    ensures { λ r. ⌜ Looked levels cap (now (s .entry)) place top r (now (guesses .exit)) ⌝ }
+// What level l + 1 says is written to `guesses`, where its context c is present and every shorter one was `found`. Whether it is, is returned.
+pub fn say(space: &[u32], guesses: &mut [u16; 16], l: usize, c: usize, found: bool) -> bool
+    requires { ⌜ (length (now space) ≡ store) × (l < levels) × (c ≤ room) ⌝ }
+    ensures { λ r. ⌜ Says (T.value (part l (now (space .entry))) bests c) l found (now (guesses .entry)) (now (guesses .exit)) r ⌝ }
 {
-    let mut l = 0;
-    while l < top {
-        let known = lookup(space, l, nodes[l]);
-        match known {
+    if found {
+        match lookup(space, l, c) {
             Context::Present(x) => {
                 guesses[l] = x as u16;
+                return true;
             }
             Context::Absent => {
-                return l;
+                return false;
             }
         }
-        l += 1;
     }
-    l
+    false
 }

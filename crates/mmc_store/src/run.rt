@@ -1,43 +1,32 @@
 // The whole run.
 use crate::place::at_place;
+use mmc_bits::clear::clear;
 use race::SILENT;
 use race::Tally;
 use race::count;
 use race::score;
 ghost use mathlib.Core.Path.{_≡_};
-ghost use Prim.Native.Nat.{_<_, _≤_};
-ghost use lib.ListN.{length, replicate};
+ghost use Prim.Native.Nat.{_≤_};
+ghost use lib.ListN.{length};
 ghost use Rattle.capture.specs.Limit.{symbolLimit};
 ghost use Rattle.mmc_bits.specs.Levels.{levels, cap};
-ghost use Rattle.mmc_store.specs.Mmc.{tallyOf};
+ghost use Rattle.mmc_store.specs.inner.Tally.{tallyOf};
 ghost use Rattle.mmc_store.specs.Space.{size, final};
-ghost use Rattle.mmc_store.specs.Places.{store};
+ghost use Rattle.mmc_store.specs.inner.Places.{store};
 
 // How many numbers sixteen levels are lent, and how many of them the tables take.
 const SIZE: usize = 16_777_216;
 
 const STORE: usize = 11_141_120;
 
-// Every number is zero: nothing is counted.
-fn clear(space: &mut [u32])
-    ensures { λ _. ⌜ now (space .exit) ≡ replicate (length (now (space .entry))) 0 ⌝ }
-{
-    let mut i = 0;
-    while i < space.len() {
-        space[i] = 0;
-        i += 1;
-    }
-}
-
 // All places, one after the other, from cleared numbers on.
 fn run(s: &[u8], space: &mut [u32]) -> Tally
-    requires { ⌜ (length (now s) ≤ 16777216) × (length (now space) ≡ store) ⌝ }
+    requires { ⌜ (length (now s) ≤ symbolLimit) × (length (now space) ≡ store) ⌝ }
     ensures { λ r. ⌜ r ≡ tallyOf levels cap (now (s .entry)) ⌝ }
 {
     clear(space);
     let mut entries = [0usize; 16];
     let mut nodes = [0usize; 17];
-    let mut live: usize = 16;
     let mut scores = [0u64; 16];
     let mut winner: usize = 0;
     let mut tally = Tally {
@@ -48,15 +37,7 @@ fn run(s: &[u8], space: &mut [u32]) -> Tally
     let mut place = 0;
     while place < s.len() {
         let mut guesses = [SILENT; 16];
-        live = at_place(
-            s,
-            space,
-            &mut entries,
-            &mut nodes,
-            &mut guesses,
-            place,
-            live,
-        );
+        at_place(s, space, &mut entries, &mut nodes, &mut guesses, place);
         let x = s[place] as u16;
         tally = count(tally, guesses[winner], x);
         winner = score(&mut scores, &guesses, winner, x);

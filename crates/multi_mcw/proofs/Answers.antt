@@ -1,75 +1,84 @@
--- What each track answers, one law for each way out of the code, in the order of the refusals. Assumes nothing.
-use mathlib.Core.Path.{_≡_, refl, sym, _∙_}
+-- What each track answers, by the number it is refused with. Assumes nothing.
+use mathlib.Core.Path.{_≡_, refl, ap, sym, _∙_}
+use mathlib.Core.Bool.{Bool, true, false, cond}
 use mathlib.Core.List.{List}
-use Prim.Native.Nat.{ℕ, _*_, _-_, _≤_, _<_}
+use Prim.Native.Nat.{ℕ, _*_, _-_, _≤_}
+use native.Mathlib.Omega.{arith}
+use lib.Dec.{eqb, ltb}
 use lib.ListN.{length}
-use borrow.Author.Tests.{lt-ltb, le-ltb}
-use Rattle.answer.specs.Numbers.{tooLong, tooShort, tooWide, notRun}
-use Rattle.answer.specs.Refused.{refused, refusedAt}
+use borrow.Author.Tests.{eq-eqb, ne-eqb, ltb-false}
+use Rattle.answer.specs.Numbers.{done, tooLong, tooShort, notRun}
+use Rattle.answer.specs.Refused.{refused}
 use Rattle.answer.specs.declared.Answer.{Answer}
 use Rattle.alphabet.specs.Alphabet.{dense, distinct, written}
-use Rattle.capture.specs.Bits.{bitsOf, tooWideAt}
-use Rattle.capture.specs.Limit.{symbolLimit, widthOf}
+use Rattle.capture.specs.Bits.{bitsOf}
+use Rattle.capture.specs.Limit.{overLimit, symbolLimit, widthOf}
+use Rattle.capture.specs.Refusals.{refusedOn}
 use Rattle.capture.proofs.Bitstring.{bits-length}
-use Rattle.capture.proofs.Widest.{wide-is, wide-place}
 use Rattle.prediction.specs.Estimate.{estimateOf}
-use Rattle.multi_mcw.specs.Mcw.{countsOf, firstPlace, leastSamples}
-use Rattle.multi_mcw.specs.Tracks.{estimated, mcwBits, mcwLiteral, mcwLiteralOutput}
-use Rattle.multi_mcw.specs.declared.Counts.{Counts}
+use Rattle.mcw_bits.specs.inner.Counts.{countsOf}
+use Rattle.mcw_bits.specs.Mcw.{firstPlace, leastSamples}
+use Rattle.mcw_bits.specs.declared.Counts.{Counts}
+use Rattle.multi_mcw.specs.Tracks.{bitsNumber, estimated, literalNumber, mcwBits, mcwLiteral, mcwLiteralOutput}
 use Rattle.multi_mcw.proofs.Translated.{dense-length}
 
 -- the estimate over samples whose counts are r
-estimate-is : (s : List ℕ) (k : ℕ) {n k′ : ℕ} {r : Counts} → r ≡ countsOf s → n ≡ length s → k′ ≡ k → estimateOf (r .c) (n - firstPlace) (r .longest) k′ ≡ estimated s k
+estimate-is : (s : List ℕ) (k : ℕ) {n k′ : ℕ} {r : Counts} → r ≡ countsOf s → n ≡ length s → k′ ≡ k
+    → estimateOf (r .c) (n - firstPlace) (r .longest) k′ ≡ estimated s k
 estimate-is s k e n k′ = rw (e, n, k′)
 
-module _ (s : List ℕ) (w : ℕ) where
-  pub bits-too-long : symbolLimit < length s → refused tooLong ≡ mcwBits s w
+-- ---- the bitstring track
+
+module _ (s : List ℕ) (w : ℕ) {n : ℕ} (e : n ≡ bitsNumber s w) where
+  pub bits-refused : (n ≡ 0 → ⊥) → {r : Answer} → r ≡ refusedOn s n → r ≡ mcwBits s w
   unfolding mcwBits
-  bits-too-long h = simp (lt-ltb _ _ h)
+  bits-refused d p = rw (ne-eqb (bitsNumber s w) 0 (λ q. d (e ∙ q))) (p ∙ ap (refusedOn s) e)
 
   -- v is the width as the code has it
-  module _ (fits : length s ≤ symbolLimit) {v : ℕ} (e : v ≡ widthOf w) where
-    pub bits-not-run : length s * v < leastSamples → refused notRun ≡ mcwBits s w
-    unfolding mcwBits
-    bits-not-run l = simp (le-ltb _ _ fits, sym e, lt-ltb _ _ l)
+  pub bits-ran : n ≡ 0 → {v : ℕ} → v ≡ widthOf w → {r : Counts} → r ≡ countsOf (bitsOf s v (length s * v))
+      → estimateOf (r .c) (length s * v - firstPlace) (r .longest) 2 ≡ mcwBits s w
+  unfolding mcwBits
+  bits-ran z {v} ve re =
+      rw (eq-eqb (bitsNumber s w) 0 (sym e ∙ z), ← ve) (estimate-is (bitsOf s v (length s * v)) 2 re (sym (bits-length s v (length s * v))) refl)
 
-    module _ (many : leastSamples ≤ length s * v) {place : ℕ} (at : place ≡ tooWideAt s v) where
-      pub bits-too-wide : place < length s → refusedAt tooWide place ≡ mcwBits s w
-      unfolding mcwBits
-      bits-too-wide l =
-          let l′ : tooWideAt s v < length s = rw at at l in
-          rw (at, wide-place s v l′) (simp (le-ltb _ _ fits, sym e, le-ltb _ _ many, wide-is s v, lt-ltb _ _ l′))
+-- ---- the literal track
 
-      pub bits-done : length s ≤ place → {r : Counts} → r ≡ countsOf (bitsOf s v (length s * v)) → estimateOf (r .c) (length s * v - firstPlace) (r .longest) 2 ≡ mcwBits s w
-      unfolding mcwBits
-      bits-done l {r} re =
-          let l′ : length s ≤ tooWideAt s v = rw at at l in
-          estimate-is (bitsOf s v (length s * v)) 2 re (sym (bits-length s v (length s * v))) refl
-          ∙ simp (le-ltb _ _ fits, sym e, le-ltb _ _ many, wide-is s v, le-ltb _ _ l′)
+-- what is known of a capture that is not refused
+pub record Taken (s out : List ℕ) : Type 0 where
+  pub fits : length s ≤ symbolLimit
+  pub many : leastSamples ≤ length s
+  pub room : length s ≤ length out
 
--- an answer and an output of the literal track
-abbrev Literal : List ℕ → List ℕ → Answer → List ℕ → Type 0
-Literal s out answer out′ = (answer ≡ mcwLiteral s out) × (out′ ≡ mcwLiteralOutput s out)
+no-test : (long few short : Bool) → cond long tooLong (cond few notRun (cond short tooShort done)) ≡ 0
+    → (long ≡ false) × (few ≡ false) × (short ≡ false)
+no-test true _ _ h = absurd (omega arith)
+no-test false true _ h = absurd (omega arith)
+no-test false false true h = absurd (omega arith)
+no-test false false false h = (refl, refl, refl)
 
-module _ (s out : List ℕ) where
-  pub literal-too-long : symbolLimit < length s → Literal s out (refused tooLong) out
+module _ (s out : List ℕ) {n : ℕ} (e : n ≡ literalNumber s out) where
+  pub literal-taken : n ≡ 0 → Taken s out
+  literal-taken z =
+      let t = no-test (overLimit s) (ltb (length s) leastSamples) (ltb (length out) (length s)) (sym e ∙ z) in
+      record {
+        fits = ltb-false symbolLimit (length s) (t .0);
+        many = ltb-false (length s) leastSamples (t .1);
+        room = ltb-false (length out) (length s) (t .2);
+      }
+
+  -- an answer and an output
+  abbrev Answered : Answer → List ℕ → Type 0
+  Answered r out′ = (r ≡ mcwLiteral s out) × (out′ ≡ mcwLiteralOutput s out)
+
+  pub literal-refused : (n ≡ 0 → ⊥) → {r : Answer} → r ≡ refused n → Answered r out
   unfolding mcwLiteral mcwLiteralOutput
-  literal-too-long h = (simp (lt-ltb _ _ h), simp (lt-ltb _ _ h))
+  literal-refused d p =
+      let f : eqb (literalNumber s out) done ≡ false = ne-eqb (literalNumber s out) 0 (λ q. d (e ∙ q)) in
+      (rw f (p ∙ ap refused e), rw f)
 
-  module _ (fits : length s ≤ symbolLimit) where
-    pub literal-not-run : length s < leastSamples → Literal s out (refused notRun) out
-    unfolding mcwLiteral mcwLiteralOutput
-    literal-not-run l = (simp (le-ltb _ _ fits, lt-ltb _ _ l), simp (le-ltb _ _ fits, lt-ltb _ _ l))
-
-    module _ (many : leastSamples ≤ length s) where
-      pub literal-too-short : length out < length s → Literal s out (refused tooShort) out
-      unfolding mcwLiteral mcwLiteralOutput
-      literal-too-short l = (simp (le-ltb _ _ fits, le-ltb _ _ many, lt-ltb _ _ l), simp (le-ltb _ _ fits, le-ltb _ _ many, lt-ltb _ _ l))
-
-      pub literal-done : length s ≤ length out → {k : ℕ} {r : Counts} {out′ : List ℕ} → k ≡ distinct s → r ≡ countsOf (dense s) → out′ ≡ written (dense s) out
-          → Literal s out (estimateOf (r .c) (length s - firstPlace) (r .longest) k) out′
-      unfolding mcwLiteral mcwLiteralOutput
-      literal-done l ke re oe = (
-        estimate-is (dense s) (distinct s) re (sym (dense-length s)) ke ∙ simp (le-ltb _ _ fits, le-ltb _ _ many, le-ltb _ _ l),
-        oe ∙ simp (le-ltb _ _ fits, le-ltb _ _ many, le-ltb _ _ l),
-      )
+  pub literal-ran : n ≡ 0 → {k : ℕ} {r : Counts} {out′ : List ℕ} → k ≡ distinct s → r ≡ countsOf (dense s) → out′ ≡ written (dense s) out
+      → Answered (estimateOf (r .c) (length s - firstPlace) (r .longest) k) out′
+  unfolding mcwLiteral mcwLiteralOutput
+  literal-ran z ke re oe =
+      let f : eqb (literalNumber s out) done ≡ true = eq-eqb (literalNumber s out) 0 (sym e ∙ z) in
+      (rw f (estimate-is (dense s) (distinct s) re (sym (dense-length s)) ke), rw f oe)

@@ -1,12 +1,3 @@
-pub mod Counting
-pub mod Commonest
-pub mod Keys
-pub mod Sliding
-pub mod Sayings
-pub mod Place
-pub mod Samples
-pub mod Ones
 pub mod Translated
 pub mod Answers
 pub mod Ran
-pub mod Examples

@@ -15,11 +15,13 @@ use Rattle.capture.specs.Limit.{symbolLimit, widthOf}
 use Rattle.alphabet.proofs.Alphabets.{Bytes}
 use Rattle.capture.proofs.Bitstring.{bits-length}
 use Rattle.capture.proofs.Clamping.{width-most}
-use Rattle.prediction.specs.Counts.{countLimit, impossibleCounts}
+use Rattle.counts.specs.Counts.{countLimit, impossibleCounts}
 use Rattle.prediction.specs.Estimate.{estimateOf, estimatedOf}
 use Rattle.race.proofs.Cases.{tested}
 use Rattle.race.proofs.Standing.{correct-le, run-le-correct, correct-run}
-use Rattle.multi_mcw.specs.Mcw.{countsOf, predictions, said, sample, leastSamples}
+use Rattle.mcw_bits.specs.inner.Counts.{countsOf}
+use Rattle.race.specs.Race.{sample, predictions}
+use Rattle.mcw_bits.specs.Mcw.{firstPlace, said, leastSamples}
 use Rattle.multi_mcw.specs.Tracks.{estimated, literalNumber, mcwLiteral}
 use Rattle.multi_mcw.proofs.Translated.{dense-length, dense-samples}
 
@@ -37,10 +39,12 @@ can-be c n run k a b f d e g = rw (le-ltb n c a, le-ltb c run b, some-run c run 
 
 -- C <= N, run <= C, and C > 0 implies run > 0
 module _ (s : List ℕ) (k : ℕ) (least : 1 ≤ k) (most : k ≤ 256) (few : length s ≤ countLimit) where
-  pub counts-can-be : impossibleCounts (countsOf s .c) (predictions s) (countsOf s .longest) k ≡ false
+  pub counts-can-be : impossibleCounts (countsOf s .c) (predictions firstPlace s) (countsOf s .longest) k ≡ false
   counts-can-be =
-      can-be (countsOf s .c) (predictions s) (countsOf s .longest) k
-      (correct-le 4 63 (said s) (sample s) (predictions s)) (run-le-correct 4 63 (said s) (sample s) (predictions s)) (correct-run 4 63 (said s) (sample s) (predictions s))
+      can-be (countsOf s .c) (predictions firstPlace s) (countsOf s .longest) k
+      (correct-le 4 63 (said s) (sample s) (predictions firstPlace s))
+      (run-le-correct 4 63 (said s) (sample s) (predictions firstPlace s))
+      (correct-run 4 63 (said s) (sample s) (predictions firstPlace s))
       least most (omega arith)
 
   pub ran : estimated s k .number ≡ done

@@ -1,5 +1,5 @@
 -- The samples of the literal track: what the translator leaves, and that its numbers are below the alphabet's size. Assumes nothing.
-use mathlib.Core.Path.{_≡_, ap, _∙_}
+use mathlib.Core.Path.{_≡_, ap, sym, _∙_}
 use mathlib.Core.List.{List}
 use Prim.Native.Nat.{ℕ, _≤_, _<_}
 use native.Mathlib.Omega.{arith}
@@ -12,7 +12,7 @@ use Rattle.alphabet.specs.declared.Alphabet.{Alphabet}
 use Rattle.alphabet.proofs.Alphabets.{Bytes, dense-below}
 use Rattle.capture.proofs.Clamping.{limit-small}
 use Rattle.alphabet.proofs.Distinct.{distinct-le}
-use Rattle.multi_mcw.specs.Keys.{Samples}
+use Rattle.mcw_symbols.specs.inner.Keys.{Samples}
 
 pub dense-length : (s : List ℕ) → length (dense s) ≡ length s
 dense-length s = length-map s (firstSight s)
@@ -31,13 +31,22 @@ module _ (s : List ℕ) (bytes : Bytes s) where
   pub translated-asks : 0 < length s → length s ≤ symbolLimit → {p : List ℕ} {k : ℕ} → p ≡ dense s → k ≡ distinct s → (length p ≤ symbolLimit) × Samples p k
   translated-asks some fits pe ke = rw (pe, ke) (omega (arith, dense-length s), dense-samples some fits)
 
--- where the translator is not refused
-module _ (s out : List ℕ) (fits : length s ≤ symbolLimit) (room : length s ≤ length out) where
-  pub size-is : {a : Alphabet} → a ≡ alphabetOf s out → a .size ≡ distinct s
-  size-is e = ap (λ (a : Alphabet). a .size) e ∙ simp (le-ltb _ _ fits, le-ltb _ _ room)
+-- the translator is not refused, since the capture is short enough and the output long enough: it answers a and leaves out₁
+pub record Translation (s out : List ℕ) (a : Alphabet) (out₁ : List ℕ) : Type 0 where
+  pub fits : length s ≤ symbolLimit
+  pub room : length s ≤ length out
+  pub answers : a ≡ alphabetOf s out
+  pub leaves : out₁ ≡ outputOf dense s out
 
-  pub out-is : {out′ : List ℕ} → out′ ≡ outputOf dense s out → out′ ≡ written (dense s) out
-  out-is e = e ∙ simp (le-ltb _ _ fits, le-ltb _ _ room)
+module _ {s out : List ℕ} {a : Alphabet} {out₁ : List ℕ} (T : Translation s out a out₁) where
+  pub size-is : a .size ≡ distinct s
+  size-is = ap (λ (a : Alphabet). a .size) (T .answers) ∙ simp (le-ltb _ _ (T .fits), le-ltb _ _ (T .room))
 
-  pub part-is : {out′ : List ℕ} → out′ ≡ outputOf dense s out → take (length s) out′ ≡ dense s
-  part-is e = ap (take (length s)) (out-is e) ∙ take-at (dense s) (drop (length (dense s)) out) (length s) (dense-length s)
+  pub written-is : out₁ ≡ written (dense s) out
+  written-is = T .leaves ∙ simp (le-ltb _ _ (T .fits), le-ltb _ _ (T .room))
+
+  pub taken-is : take (length s) out₁ ≡ dense s
+  taken-is = ap (take (length s)) written-is ∙ take-at (dense s) (drop (length (dense s)) out) (length s) (dense-length s)
+
+  pub taken-length : length s ≡ length (take (length s) out₁)
+  taken-length = sym (ap length taken-is ∙ dense-length s)

@@ -1,6 +1,1 @@
-pub mod Commonest
-pub mod Mcw
 pub mod Tracks
-pub mod Say
-pub mod Keys
-pub mod Ones

@@ -1,29 +1,32 @@
 -- What MultiMCW answers on each track, refusals in the order 1, 6, 2, 3. Definitions only.
 use Prim.Native.Nat.{ℕ}
-use mathlib.Core.Bool.{cond}
+use mathlib.Core.Bool.{cond, false}
 use mathlib.Core.List.{List}
 use lib.Dec.{eqb, ltb}
 use lib.ListN.{length}
-use Rattle.answer.specs.Numbers.{done, tooLong, tooShort, tooWide, notRun}
-use Rattle.answer.specs.Refused.{refused, refusedAt}
+use Rattle.answer.specs.Numbers.{done, tooLong, tooShort, notRun}
+use Rattle.answer.specs.Refused.{refused}
 use Rattle.answer.specs.declared.Answer.{Answer}
 use Rattle.alphabet.specs.Alphabet.{dense, distinct, written}
-use Rattle.capture.specs.Bits.{bitCount, bitsOf, firstWide, wide}
+use Rattle.capture.specs.Bits.{bitCount, bitsOf}
 use Rattle.capture.specs.Limit.{overLimit, widthOf}
+use Rattle.capture.specs.Refusals.{bitsRefusal, refusedOn}
 use Rattle.prediction.specs.Estimate.{estimateOf}
-use Rattle.multi_mcw.specs.Mcw.{countsOf, leastSamples, predictions}
+use Rattle.race.specs.Race.{hits, longest, predictions}
+use Rattle.mcw_bits.specs.Mcw.{firstPlace, leastSamples, raceOf}
 
--- the estimate from the race over a list of samples of k symbols
+-- the estimate from the race over a list of samples of k symbols: C, N and the longest run
 abbrev pub estimated : List ℕ → ℕ → Answer
-estimated s k = estimateOf (countsOf s .c) (predictions s) (countsOf s .longest) k
+estimated s k = estimateOf (hits (raceOf s)) (predictions firstPlace s) (longest (raceOf s)) k
 
 -- the bitstring track: "A sample is a bit", and "k is 2 on bits"
+abbrev pub bitsNumber : List ℕ → ℕ → ℕ
+bitsNumber symbols w = bitsRefusal symbols w leastSamples false
+
 unfoldable pub mcwBits : List ℕ → ℕ → Answer
 mcwBits symbols w =
-    cond (overLimit symbols) (refused tooLong)
-    (cond (ltb (bitCount symbols (widthOf w)) leastSamples) (refused notRun)
-    (cond (wide symbols (widthOf w)) (refusedAt tooWide (firstWide symbols))
-    (estimated (bitsOf symbols (widthOf w) (bitCount symbols (widthOf w))) 2)))
+    cond (eqb (bitsNumber symbols w) done) (estimated (bitsOf symbols (widthOf w) (bitCount symbols (widthOf w))) 2)
+    (refusedOn symbols (bitsNumber symbols w))
 
 -- the number by which the literal track is refused, and `done` where it is not; "the literal tracks need an output as long as the capture"
 abbrev pub literalNumber : List ℕ → List ℕ → ℕ

@@ -10,10 +10,20 @@ use native.Mathlib.Omega.{arith}
 use lib.ListN.{getD}
 use lib.Dec.{eqb, ltb}
 use borrow.Author.Tests.{eqb-true, eqb-false, ltb-true, ltb-false, lt-ltb, le-ltb}
-use Rattle.mmc_bits.specs.Counters.{context, pair, occurs, distinct, counter}
-use Rattle.mmc_bits.specs.Steps.{Bits}
+use Rattle.mmc_bits.specs.Counters.{context, pair, occurs, counter}
+use Rattle.mmc_bits.specs.inner.Steps.{Bits, distinct}
 use Rattle.mmc_bits.proofs.Cases.{tested}
-use Rattle.mmc_bits.proofs.Counting.{distinct-early, distinct-more, counter-none, counter-other, counter-again, counter-first, counter-full, stored-again, stored-first}
+use Rattle.mmc_bits.proofs.Counting.{
+  distinct-early,
+  distinct-more,
+  counter-none,
+  counter-other,
+  counter-again,
+  counter-first,
+  counter-full,
+  stored-again,
+  stored-first,
+}
 use Rattle.mmc_store.specs.Counts.{count}
 use Rattle.mmc_store.specs.Levels.{Level, nothing, counting, whenFound, whenAbsent, found, level}
 use Rattle.multi_mmc.proofs.Windows.{key, context-down, pair-is}
@@ -106,7 +116,8 @@ module _ (cap : ℕ) (s : List ℕ) where
         when-absent t = tested (ltb (v .entries) cap)
             (λ w. let r : v .entries < cap = ltb-true _ _ w in
             let z : occurs (suc l) s (pair (suc l) s i) i ≡ 0 =
-            rw (pair-is s (suc l) i) (since-new s bits cap (suc l) i (unheard cap s bits (suc l) i t) (omega (arith, a l .entries-are)) (getD s i 0) (bits i)) in
+            rw (pair-is s (suc l) i)
+            (since-new s bits cap (suc l) i (unheard cap s bits (suc l) i t) (omega (arith, a l .entries-are)) (getD s i 0) (bits i)) in
             rw w (first (counter-none cap (suc l) s (pair (suc l) s i) i z) r))
             (λ w. rw w (out (ltb-false _ _ w)
             (λ g. rw (pair-is s (suc l) i) (omega (arith, heard-not cap s l i i g t, bit-le cap s (suc l) i i (getD s i 0) (bits i))))))

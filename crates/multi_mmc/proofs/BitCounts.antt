@@ -10,7 +10,7 @@ use lib.ListN.{getD}
 use lib.Dec.{eqb, ltb}
 use borrow.Author.Tests.{eq-eqb, ne-eqb, lt-ltb, ltb-true, ltb-false}
 use Rattle.mmc_bits.specs.Counters.{pair}
-use Rattle.mmc_bits.specs.Steps.{Bits}
+use Rattle.mmc_bits.specs.inner.Steps.{Bits}
 use Rattle.mmc_bits.proofs.Cases.{tested}
 use Rattle.mmc_store.specs.Counts.{same, present, count, predicted}
 use Rattle.mmc_store.proofs.Largest.{Top, largest-is}

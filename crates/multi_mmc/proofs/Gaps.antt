@@ -10,10 +10,26 @@ use native.Mathlib.Omega.{arith}
 use lib.ListN.{getD}
 use lib.Dec.{eqb, ltb}
 use borrow.Author.Tests.{eqb-true, eqb-false, ltb-true, ltb-false}
-use Rattle.mmc_bits.specs.Counters.{context, pair, occurs, distinct, counter}
-use Rattle.mmc_bits.specs.Steps.{Bits}
+use Rattle.mmc_bits.specs.Counters.{context, pair, occurs, counter}
+use Rattle.mmc_bits.specs.inner.Steps.{Bits, distinct}
 use Rattle.mmc_bits.proofs.Cases.{tested}
-use Rattle.mmc_bits.proofs.Counting.{occurs-same, occurs-other, occurs-early, occurs-more, distinct-new, distinct-old, distinct-early, distinct-more, ahead-le, counter-low, counter-none, counter-other, counter-again, counter-first, counter-full}
+use Rattle.mmc_bits.proofs.Counting.{
+  occurs-same,
+  occurs-other,
+  occurs-early,
+  occurs-more,
+  distinct-new,
+  distinct-old,
+  distinct-early,
+  distinct-more,
+  ahead-le,
+  counter-low,
+  counter-none,
+  counter-other,
+  counter-again,
+  counter-first,
+  counter-full,
+}
 use Rattle.multi_mmc.proofs.Windows.{key, context-down, context-next, pair-is}
 
 -- ---- one place more, of the counters

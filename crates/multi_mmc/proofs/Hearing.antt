@@ -8,8 +8,8 @@ use mathlib.Core.List.{List}
 use native.Mathlib.Omega.{arith}
 use lib.Dec.{ltb}
 use borrow.Author.Tests.{ltb-true, ltb-false, lt-ltb}
-use Rattle.mmc_bits.specs.Counters.{context, occurs, distinct, counter}
-use Rattle.mmc_bits.specs.Steps.{Bits}
+use Rattle.mmc_bits.specs.Counters.{context, occurs, counter}
+use Rattle.mmc_bits.specs.inner.Steps.{Bits, distinct}
 use Rattle.mmc_bits.proofs.Cases.{tested}
 use Rattle.mmc_store.proofs.Same.{and-left, and-right}
 use Rattle.multi_mmc.proofs.Windows.{of-two, key, context-down}

@@ -1,5 +1,6 @@
 pub mod BitsAnswers
 pub mod LiteralAnswers
+pub mod Estimates
 pub mod Translated
 pub mod Windows
 pub mod Gaps

@@ -11,19 +11,19 @@ use lib.Dec.{leb, ltb}
 use borrow.Author.Tests.{eq-eqb, ne-eqb, ltb-true, ltb-false, leb-true, leb-false}
 use Rattle.alphabet.specs.Alphabet.{distinct, sorted}
 use Rattle.alphabet.proofs.Alphabets.{Bytes, sorted-below}
-use Rattle.race.specs.Race.{Guess, silent, says, events, hits, longest}
+use Rattle.race.specs.Race.{Guess, silent, says, Event, raceOver}
 use Rattle.mmc_bits.specs.Levels.{levels, cap, firstPlace}
 use Rattle.mmc_bits.specs.Counters.{context, counter}
 use Rattle.mmc_bits.specs.Guesses.{verdict, own}
 use Rattle.mmc_bits.specs.Guesses as BitLevels
 use Rattle.mmc_bits.specs.Mmc as Bits
-use Rattle.mmc_bits.specs.Steps.{Bits}
+use Rattle.mmc_bits.specs.inner.Steps.{Bits}
 use Rattle.mmc_bits.proofs.Cases.{tested}
 use Rattle.mmc_store.specs.Counts.{count, predicted}
 use Rattle.mmc_store.specs.Levels.{level}
 use Rattle.mmc_store.specs.Levels as StoreLevels
 use Rattle.mmc_store.specs.Mmc as Store
-use Rattle.multi_mmc.specs.Tracks.{bitsEstimate, storeEstimate, literalEstimate}
+use Rattle.multi_mmc.specs.Tracks.{estimated, bitsEstimate, storeEstimate, literalEstimate}
 use Rattle.multi_mmc.proofs.Translated.{sorted-length}
 use Rattle.multi_mmc.proofs.Windows.{key}
 use Rattle.multi_mmc.proofs.Hearing.{both, heard}
@@ -62,24 +62,18 @@ module _ (cap : ℕ) (s : List ℕ) (bits : Bits s) (i : ℕ) where
   unfolding StoreLevels.guess
   guess-same d = rw (found-is cap s bits i (agrees cap s bits i) (suc d)) (sym (heard-guess d))
 
--- so the races are the same, and what is counted of them
+-- so the races are the same
 module _ (cap : ℕ) (s : List ℕ) (bits : Bits s) where
   guesses-same : StoreLevels.guess cap s ≡ BitLevels.guess cap s
   guesses-same = λ t i d. guess-same cap s bits i d t
 
   pub race-same : (n : ℕ) → Store.raceOf n cap s ≡ Bits.raceOf n cap s
-  race-same n = ap (λ (g : ℕ → ℕ → Guess). events n firstPlace g (Bits.truth s) (Bits.predicted s)) guesses-same
-
-  pub correct-same : (n : ℕ) → Store.correctOf n cap s ≡ Bits.correctOf n cap s
-  correct-same n = ap hits (race-same n)
-
-  pub longest-same : (n : ℕ) → Store.longestOf n cap s ≡ Bits.longestOf n cap s
-  longest-same n = ap longest (race-same n)
+  race-same n = ap (λ (g : ℕ → ℕ → Guess). raceOver n firstPlace g s) guesses-same
 
 -- and the estimate, by the numbers in force
 pub estimate-same : (s : List ℕ) → Bits s → storeEstimate s 2 ≡ bitsEstimate s
 unfolding storeEstimate bitsEstimate
-estimate-same s bits = rw (correct-same cap s bits levels, longest-same cap s bits levels)
+estimate-same s bits = ap (λ (es : List Event). estimated es s 2) (race-same cap s bits levels)
 
 -- a translated capture of at most two values is a list of bits
 sorted-bits : (s : List ℕ) → Bytes s → distinct s ≤ 2 → Bits (sorted s)

@@ -1,16 +1,18 @@
 -- What MultiMMC answers on each track, refusals in the order 1, 6, 2, 3, and what it leaves in lent memory. Definitions only.
-use Prim.Native.Nat.{ℕ, _-_}
+use Prim.Native.Nat.{ℕ}
 use mathlib.Core.Bool.{Bool, cond, _||_}
 use mathlib.Core.List.{List}
 use lib.Dec.{eqb, leb, ltb}
 use lib.ListN.{length}
-use Rattle.answer.specs.Numbers.{done, tooLong, tooShort, tooWide, notRun}
-use Rattle.answer.specs.Refused.{refused, refusedAt}
+use Rattle.answer.specs.Numbers.{done, tooLong, tooShort, notRun}
+use Rattle.answer.specs.Refused.{refused}
 use Rattle.answer.specs.declared.Answer.{Answer}
 use Rattle.alphabet.specs.Alphabet.{sorted, distinct, written}
-use Rattle.capture.specs.Bits.{bitCount, bitsOf, firstWide, wide}
+use Rattle.capture.specs.Bits.{bitCount, bitsOf}
 use Rattle.capture.specs.Limit.{overLimit, widthOf}
+use Rattle.capture.specs.Refusals.{bitsRefusal, refusedOn}
 use Rattle.prediction.specs.Estimate.{estimateOf}
+use Rattle.race.specs.Race.{Event, hits, longest, predictions}
 use Rattle.mmc_bits.specs.Levels.{levels, cap, firstPlace}
 use Rattle.mmc_bits.specs.Mmc as Bits
 use Rattle.mmc_bits.specs.Space as BitSpace
@@ -21,31 +23,28 @@ use Rattle.mmc_store.specs.Space as StoreSpace
 abbrev pub leastSamples : ℕ
 leastSamples = 4
 
--- "N = length - 2"
-abbrev pub predictions : List ℕ → ℕ
-predictions s = length s - firstPlace
+-- the estimate from a race over a list of samples of k symbols: C, N and the longest run; "N = length - 2"
+abbrev pub estimated : List Event → List ℕ → ℕ → Answer
+estimated events s k = estimateOf (hits events) (predictions firstPlace s) (longest events) k
 
--- the estimate of a list of bits, and of a list of more than two values
+-- that of a list of bits, and of a list of more than two values
 unfoldable pub bitsEstimate : List ℕ → Answer
-bitsEstimate b = estimateOf (Bits.correctOf levels cap b) (predictions b) (Bits.longestOf levels cap b) 2
+bitsEstimate b = estimated (Bits.raceOf levels cap b) b 2
 
 unfoldable pub storeEstimate : List ℕ → ℕ → Answer
-storeEstimate s k = estimateOf (Store.correctOf levels cap s) (predictions s) (Store.longestOf levels cap s) k
+storeEstimate s k = estimated (Store.raceOf levels cap s) s k
 
 -- the bitstring track: "A sample is a bit", "Binary MultiMMC needs 262,140 u32 counters"
 abbrev pub bitsOfCapture : List ℕ → ℕ → List ℕ
 bitsOfCapture symbols w = bitsOf symbols (widthOf w) (bitCount symbols (widthOf w))
 
 unfoldable pub bitsNumber : List ℕ → ℕ → List ℕ → ℕ
-bitsNumber symbols w counters =
-    cond (overLimit symbols) tooLong
-    (cond (ltb (bitCount symbols (widthOf w)) leastSamples) notRun
-    (cond (ltb (length counters) (BitSpace.size levels)) tooShort (cond (wide symbols (widthOf w)) tooWide done)))
+bitsNumber symbols w counters = bitsRefusal symbols w leastSamples (ltb (length counters) (BitSpace.size levels))
 
 unfoldable pub mmcBits : List ℕ → ℕ → List ℕ → Answer
 mmcBits symbols w counters =
     cond (eqb (bitsNumber symbols w counters) done) (bitsEstimate (bitsOfCapture symbols w))
-    (refusedAt (bitsNumber symbols w counters) (cond (eqb (bitsNumber symbols w counters) tooWide) (firstWide symbols) 0))
+    (refusedOn symbols (bitsNumber symbols w counters))
 
 -- "Binary space holds the counts"; on a refusal "lent memory unchanged"
 unfoldable pub mmcBitsSpace : List ℕ → ℕ → List ℕ → List ℕ

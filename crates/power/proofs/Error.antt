@@ -1,8 +1,11 @@
--- How far `powerOf t n` is from the exact n-th power of t = a / c, a double from 0 to 1: off by a factor (1 + 2 ^ -53) ^ n at most. From above this holds of the larger of the power and
--- 1/256, so that no underflow matters; from below where the power is 1/128 at least. Each product carries the errors of its factors and one of its own (`product`). Assumes nothing.
+-- How far `powerOf t n` is from the exact n-th power of t = a / c, a double from 0 to 1: off by a factor (1 + 2 ^ -53) ^ n at most. From above this
+-- holds of the larger of the power and
+-- 1/256, so that no underflow matters; from below where the power is 1/128 at least. Each product carries the errors of its factors and one of its
+-- own (`product`). Assumes nothing.
 use mathlib.Core.Path.{_≡_, refl, sym, ap, _∙_, subst}
 use Prim.Native.Nat.{ℕ, zero, suc, _+_, _-_, _*_, _/_, _%_, _^_, _≤_, _<_}
-use native.Mathlib.Nat.{le-trans, le-of-eq, zero-lt-suc, mul-comm, add-comm, mul-le-mul, mul-le-mul-left, pow-zero, pow-le-pow-left, pow-succ', le-of-mul-le-mul-right}
+use native.Mathlib.Nat.{le-trans, le-of-eq, zero-lt-suc, mul-comm, add-comm, mul-le-mul, mul-le-mul-left, pow-zero, pow-le-pow-left}
+use native.Mathlib.Nat.{pow-succ', le-of-mul-le-mul-right}
 use native.Mathlib.Omega.{arith}
 use mathlib.Core.Bool.{Bool, true, false, not, cond}
 use borrow.Author.Tests.{eqb-true, eqb-false}
@@ -88,7 +91,8 @@ module _ (t : Float) (a c : ℕ) (A : 0 < a) (C : 0 < c) (v : HasValue t false a
   still-large i k h =
       le-of-mul-le-mul-right
       (le-trans (le-of-eq (sym (pow-add c i k)))
-      (le-trans h (le-trans (mul-le-mul-left 128 (le-trans (le-of-eq (pow-add a i k)) (mul-le-mul-left (a ^ i) (pow-le-pow-left l k)))) (le-of-eq (turn (a ^ i) (c ^ k))))))
+      (le-trans h (le-trans (mul-le-mul-left 128 (le-trans (le-of-eq (pow-add a i k)) (mul-le-mul-left (a ^ i) (pow-le-pow-left l k))))
+      (le-of-eq (turn (a ^ i) (c ^ k))))))
       (pow-above k C)
     where
       turn : (x y : ℕ) → 128 * (x * y) ≡ 128 * x * y
@@ -99,12 +103,14 @@ module _ (t : Float) (a c : ℕ) (A : 0 < a) (C : 0 < c) (v : HasValue t false a
     in-unit = u;
     above = λ g.
         let w = covered (i + j) in
-        product-under binary64 x y (p .in-unit .finite) (q .in-unit .finite) E F (R i) (S i) (R j) (S j) (R (i + j)) (S (i + j)) (covered i .above-zero) (covered j .above-zero) (w .above-zero) (w .to-one) (both g)
+        product-under binary64 x y (p .in-unit .finite) (q .in-unit .finite) E F (R i) (S i) (R j) (S j) (R (i + j)) (S (i + j))
+        (covered i .above-zero) (covered j .above-zero) (w .above-zero) (w .to-one) (both g)
         (normal binary64 (R (i + j)) (S (i + j)) (w .from-least))
         (product-cover (a ^ i) (c ^ i) (a ^ j) (c ^ j) (R (i + j)) (S (i + j)) (pow-above j C) (pow-le-pow-left l i) (pow-le-pow-left l j) (split w))
         (p .above (first g)) (q .above (second g));
     below = λ g h.
-        product-over binary64 x y (p .in-unit .finite) (q .in-unit .finite) E F (a ^ i) (c ^ i) (a ^ j) (c ^ j) (a ^ (i + j)) (c ^ (i + j)) (pow-above i C) (pow-above j C) (pow-above (i + j) C)
+        product-over binary64 x y (p .in-unit .finite) (q .in-unit .finite) E F (a ^ i) (c ^ i) (a ^ j) (c ^ j) (a ^ (i + j)) (c ^ (i + j))
+        (pow-above i C) (pow-above j C) (pow-above (i + j) C)
         (pow-le-pow-left l (i + j)) (both g) (half-normal binary64 (a ^ (i + j)) (c ^ (i + j)) h) (le-of-eq (rw (pow-add a i j, pow-add c i j)))
         (p .below (first g) (still-large i j h)) (q .below (second g) (still-large j i (subst (λ (k : ℕ). c ^ k ≤ 128 * a ^ k) (add-comm i j) h))) (u .finite);
   }
@@ -122,21 +128,32 @@ module _ (t : Float) (a c : ℕ) (A : 0 < a) (C : 0 < c) (v : HasValue t false a
       second g = omega arith
 
       split : Cover (a ^ (i + j)) (c ^ (i + j)) (R (i + j)) (S (i + j)) → Cover (a ^ i * a ^ j) (c ^ i * c ^ j) (R (i + j)) (S (i + j))
-      split w = record { above-zero = w .above-zero; to-one = w .to-one; from-least = w .from-least; from-power = subst (λ (z : ℕ). z * S (i + j) ≤ R (i + j) * (c ^ i * c ^ j)) (pow-add a i j) (subst (λ (z : ℕ). a ^ (i + j) * S (i + j) ≤ R (i + j) * z) (pow-add c i j) (w .from-power)) }
+      split w = record {
+        above-zero = w .above-zero;
+        to-one = w .to-one;
+        from-least = w .from-least;
+        from-power =
+            subst (λ (z : ℕ). z * S (i + j) ≤ R (i + j) * (c ^ i * c ^ j)) (pow-add a i j)
+            (subst (λ (z : ℕ). a ^ (i + j) * S (i + j) ≤ R (i + j) * z) (pow-add c i j) (w .from-power));
+      }
 
   -- ---- the first values
   near-one : Near one 0 0
   near-one = record {
     in-unit = unit-one;
-    above = λ g. under-le K 1 1 (R 0) (S 0) (subst (λ (z : ℕ). z * S 0 ≤ R 0 * 1) (pow-zero a) (subst (λ (z : ℕ). a ^ 0 * S 0 ≤ R 0 * z) (pow-zero c) (covered 0 .from-power)));
+    above = λ g. under-le K 1 1 (R 0) (S 0)
+        (subst (λ (z : ℕ). z * S 0 ≤ R 0 * 1) (pow-zero a) (subst (λ (z : ℕ). a ^ 0 * S 0 ≤ R 0 * z) (pow-zero c) (covered 0 .from-power)));
     below = λ g h. under-le K (a ^ 0) (c ^ 0) 1 1 (le-of-eq (rw (pow-zero a, pow-zero c)));
   }
 
   near-base : Near t 1 0
   near-base = record {
     in-unit = unit-of t (unsigned-of-nonneg t (nonneg-of-value t a c v)) (le-of-values t one a c 1 1 C (zero-lt-suc 0) v (refl, refl) (omega (arith, l)));
-    above = λ g. under-trans K 0 0 (num t) (den t) a c (R 1) (S 1) C (under-le K (num t) (den t) a c (le-of-eq cross)) (under-le K a c (R 1) (S 1) (subst (λ (z : ℕ). z * S 1 ≤ R 1 * c) (pow-one a) (subst (λ (z : ℕ). a ^ 1 * S 1 ≤ R 1 * z) (pow-one c) (covered 1 .from-power))));
-    below = λ g h. under-le K (a ^ 1) (c ^ 1) (num t) (den t) (le-of-eq (ap (λ (z : ℕ). z * den t) (pow-one a) ∙ sym cross ∙ ap (λ (z : ℕ). num t * z) (sym (pow-one c))));
+    above = λ g. under-trans K 0 0 (num t) (den t) a c (R 1) (S 1) C (under-le K (num t) (den t) a c (le-of-eq cross))
+        (under-le K a c (R 1) (S 1)
+        (subst (λ (z : ℕ). z * S 1 ≤ R 1 * c) (pow-one a) (subst (λ (z : ℕ). a ^ 1 * S 1 ≤ R 1 * z) (pow-one c) (covered 1 .from-power))));
+    below = λ g h. under-le K (a ^ 1) (c ^ 1) (num t) (den t)
+        (le-of-eq (ap (λ (z : ℕ). z * den t) (pow-one a) ∙ sym cross ∙ ap (λ (z : ℕ). num t * z) (sym (pow-one c))));
   }
     where
       cross : num t * c ≡ a * den t
@@ -159,8 +176,10 @@ module _ (t : Float) (a c : ℕ) (A : 0 < a) (C : 0 < c) (v : HasValue t false a
   near-times (suc d) y x n m e h s p q =
       let b = eqb (n % 2) 1 in
       let k = cond b (m + e) m in
-      at (k + (e + e) * (n / 2)) (m + e * n) (k + (e + e) * (n / 2)) (m + e * n) (exponent b (eqb-true (n % 2) 1) (eqb-false (n % 2) 1)) (exponent b (eqb-true (n % 2) 1) (eqb-false (n % 2) 1))
-      (near-times d (cond b (mul binary64 y x) y) (mul binary64 x x) (n / 2) k (e + e) (shorter n (2 ^ d) (subst (λ (z : ℕ). n < z) (pow-succ' 2 d) h)) (omega arith) (taken b y x m e s p q)
+      at (k + (e + e) * (n / 2)) (m + e * n) (k + (e + e) * (n / 2)) (m + e * n) (exponent b (eqb-true (n % 2) 1) (eqb-false (n % 2) 1))
+      (exponent b (eqb-true (n % 2) 1) (eqb-false (n % 2) 1))
+      (near-times d (cond b (mul binary64 y x) y) (mul binary64 x x) (n / 2) k (e + e)
+      (shorter n (2 ^ d) (subst (λ (z : ℕ). n < z) (pow-succ' 2 d) h)) (omega arith) (taken b y x m e s p q)
       (at (e + e) (e + e) (e - 1 + (e - 1) + 1) (e + e - 1) refl (omega arith) (product x x e e (e - 1) (e - 1) q q)))
     where
       shorter : (n w : ℕ) → n < 2 * w → n / 2 < w

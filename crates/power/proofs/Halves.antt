@@ -26,8 +26,11 @@ half-size : (n : ℕ) → 0 < n → size n ≡ suc (size (n / 2))
 half-size n h =
     let z = size-pos n h in
     let p : suc (size n - 1) ≡ size n = omega arith in
-    let a : size n ≤ suc (size (n / 2)) = size-le n (suc (size (n / 2))) (double n (2 ^ size (n / 2)) (2 ^ suc (size (n / 2))) (size-lt (n / 2)) (pow-succ' 2 (size (n / 2)))) in
-    let b : size (n / 2) ≤ size n - 1 = size-le (n / 2) (size n - 1) (halve n (2 ^ (size n - 1)) (2 ^ suc (size n - 1)) (subst (λ (x : ℕ). n < 2 ^ x) (sym p) (size-lt n)) (pow-succ' 2 (size n - 1))) in
+    let a : size n ≤ suc (size (n / 2)) =
+    size-le n (suc (size (n / 2))) (double n (2 ^ size (n / 2)) (2 ^ suc (size (n / 2))) (size-lt (n / 2)) (pow-succ' 2 (size (n / 2)))) in
+    let b : size (n / 2) ≤ size n - 1 =
+    size-le (n / 2) (size n - 1)
+    (halve n (2 ^ (size n - 1)) (2 ^ suc (size n - 1)) (subst (λ (x : ℕ). n < 2 ^ x) (sym p) (size-lt n)) (pow-succ' 2 (size n - 1))) in
     omega arith
 
 -- ---- the definition, by the exponent

@@ -40,23 +40,27 @@ taken false y x p q = p
 times-in-unit : (d : ℕ) (y x : Float) (n : ℕ) → Unit y → Unit x → Unit (timesIn d y x n)
 unfolding timesIn
 times-in-unit zero y x n p q = p
-times-in-unit (suc d) y x n p q = times-in-unit d (cond (eqb (n % 2) 1) (mul binary64 y x) y) (mul binary64 x x) (n / 2) (taken (eqb (n % 2) 1) y x p q) (unit-mul x x q q)
+times-in-unit (suc d) y x n p q =
+    times-in-unit d (cond (eqb (n % 2) 1) (mul binary64 y x) y) (mul binary64 x x) (n / 2) (taken (eqb (n % 2) 1) y x p q) (unit-mul x x q q)
 
 -- 0 ≤ x ≤ 1 gives 0 ≤ x ^ n ≤ 1
 pub power-in-unit : (x : Float) → Unit x → (n : ℕ) → Unit (powerOf x n)
 unfolding powerOf
 power-in-unit x p n = times-in-unit (size n) one x n unit-one p
 
-taken-keeps : (b : Bool) (y y' x x' : Float) → Unit y → Unit y' → Unit x → Unit x' → T (le y y') → T (le x x') → T (le (cond b (mul binary64 y x) y) (cond b (mul binary64 y' x') y'))
+taken-keeps : (b : Bool) (y y' x x' : Float) → Unit y → Unit y' → Unit x → Unit x' → T (le y y') → T (le x x') →
+    T (le (cond b (mul binary64 y x) y) (cond b (mul binary64 y' x') y'))
 taken-keeps true y y' x x' p p' q q' h k = product-keeps y y' x x' p p' q q' h k
 taken-keeps false y y' x x' p p' q q' h k = h
 
-times-keeps : (d : ℕ) (y y' x x' : Float) (n : ℕ) → Unit y → Unit y' → Unit x → Unit x' → T (le y y') → T (le x x') → T (le (timesIn d y x n) (timesIn d y' x' n))
+times-keeps : (d : ℕ) (y y' x x' : Float) (n : ℕ) → Unit y → Unit y' → Unit x → Unit x' → T (le y y') → T (le x x') →
+    T (le (timesIn d y x n) (timesIn d y' x' n))
 unfolding timesIn
 times-keeps zero y y' x x' n p p' q q' h k = h
 times-keeps (suc d) y y' x x' n p p' q q' h k =
     let b = eqb (n % 2) 1 in
-    times-keeps d (cond b (mul binary64 y x) y) (cond b (mul binary64 y' x') y') (mul binary64 x x) (mul binary64 x' x') (n / 2) (taken b y x p q) (taken b y' x' p' q') (unit-mul x x q q) (unit-mul x' x' q' q')
+    times-keeps d (cond b (mul binary64 y x) y) (cond b (mul binary64 y' x') y') (mul binary64 x x) (mul binary64 x' x') (n / 2) (taken b y x p q)
+    (taken b y' x' p' q') (unit-mul x x q q) (unit-mul x' x' q' q')
     (taken-keeps b y y' x x' p p' q q' h k) (product-keeps x x' x x' q q' q q' k k)
 
 -- 0 ≤ x ≤ y ≤ 1 gives x ^ n ≤ y ^ n

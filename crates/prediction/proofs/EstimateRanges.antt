@@ -1,5 +1,5 @@
--- Every probability of an estimate that is not refused is a number in its range, so the entropy is never refused inside an estimate and is demand 3's figure of the largest of them.
--- Assumes nothing.
+-- Every probability of an estimate that is not refused is a number in its range, so the entropy is never refused inside an
+-- estimate and is demand 3's figure of the largest of them. Assumes nothing.
 use mathlib.Core.Path.{_≡_, refl, sym, subst}
 use mathlib.Core.Bool.{Bool, true, false, cond}
 use mathlib.Core.Logic.{_⊎_, inl, inr}
@@ -19,7 +19,7 @@ use Rattle.entropy.specs.MinEntropy.{Probability, minEntropyOf}
 use Rattle.entropy.proofs.Cases.{in-range-number, in-range-value}
 use Rattle.entropy.proofs.DemandThree.{demand-three}
 use Rattle.entropy.proofs.EntropyRange.{entropy-to-eight}
-use Rattle.ln.specs.Ln.{_⊕_, _⊖_, _⊗_, _⊘_}
+use Rattle.rounding.specs.Doubles.{_⊕_, _⊖_, _⊗_, _⊘_, one, least, whole}
 use Rattle.rounding.proofs.Compare.{le-of-lt}
 use Rattle.rounding.proofs.FromZero.{nonneg, unsigned, unsigned-of-nonneg, le-chain, nonneg-of-value, round-unsigned, add-unsigned, mul-unsigned, div-unsigned}
 use Rattle.rounding.proofs.Operations.{sub-is}
@@ -29,15 +29,15 @@ use Rattle.sqrt.proofs.Special.{root-of-nan, root-of-infinity}
 use Rattle.sqrt.proofs.Range.{root-nonneg}
 use Rattle.zero_count.specs.ZeroCount.{zeroCountBound}
 use Rattle.zero_count.proofs.Range.{bound-range, bound-fits}
-use Rattle.prediction.specs.Bisection.{localValue}
-use Rattle.prediction.specs.Counts.{countLimit}
-use Rattle.prediction.specs.Doubles.{one, least, whole, z995, atMostOne, larger}
-use Rattle.prediction.specs.Doubles as D
+use Rattle.bisect.specs.Bisection.{localValue}
+use Rattle.counts.specs.Counts.{countLimit}
+use Rattle.counts.specs.Doubles.{z995, atMostOne, larger}
+use Rattle.rounding.specs.Doubles as D
 use Rattle.prediction.specs.Estimate.{pGlobal, upperBound, primeOf, pGlobalPrime, floorFrom, floorOf, canRaise, pLocal, largest}
-use Rattle.prediction.proofs.LocalRange.{Inside, local-inside}
+use Rattle.bisect.proofs.LocalRange.{Inside, local-inside}
 use Rattle.prediction.proofs.Reaching.{z-nonneg}
-use Rattle.prediction.proofs.Refusals.{Possible}
-use Rattle.prediction.proofs.Whole.{limit-small}
+use Rattle.counts.proofs.Refusals.{Possible}
+use Rattle.counts.proofs.Whole.{limit-small}
 
 one-fits : T (fits binary64 one)
 unfolding fits
@@ -78,7 +78,8 @@ less-one n h l =
     let o : T (le one (whole n)) = le-of-values one (whole n) 1 1 n 1 (zero-lt-suc 0) (zero-lt-suc 0) (refl, refl) v (omega arith) in
     subst (λ (z : Float). T (unsigned z)) (sym (sub-is binary64 (whole n) one p tt o)) (round-unsigned binary64 _ _)
 
-upper-unsigned : (p : Float) (n : ℕ) → Between D.zero p one → 0 < n → n ≤ countLimit → T (unsigned (p ⊕ z995 ⊗ sqrtOf binary64 (p ⊗ (one ⊖ p) ⊘ (whole n ⊖ one))))
+upper-unsigned : (p : Float) (n : ℕ) → Between D.zero p one → 0 < n → n ≤ countLimit
+    → T (unsigned (p ⊕ z995 ⊗ sqrtOf binary64 (p ⊗ (one ⊖ p) ⊘ (whole n ⊖ one))))
 upper-unsigned p n r h l =
     let u : T (unsigned p) = unsigned-of-nonneg p (r .finite) in
     let q : T (unsigned (one ⊖ p)) = unsigned-of-nonneg (one ⊖ p) (complement-range binary64 p (r .finite) (r .to) .finite) in
@@ -132,7 +133,9 @@ module _ (c n : ℕ) (h : c ≤ n) (l : n ≤ countLimit) where
               range =
                   record {
                     finite = prime-range .finite;
-                    from = le-chain least (one ⊘ whole k) (pGlobalPrime c n) tt (share .finite) (prime-range .finite) (share .from) (le-of-lt (one ⊘ whole k) (pGlobalPrime c n) e);
+                    from =
+                        le-chain least (one ⊘ whole k) (pGlobalPrime c n) tt (share .finite) (prime-range .finite) (share .from)
+                        (le-of-lt (one ⊘ whole k) (pGlobalPrime c n) e);
                     to = prime-range .to;
                   };
             }

@@ -1,4 +1,5 @@
--- Where w * w, rounded, is below v, the root of v is not below w; so where p + z w, rounded, is 1 at least, p + z √v is too, for the operations keep the order. Assumes nothing.
+-- Where w * w, rounded, is below v, the root of v is not below w; so where p + z w, rounded, is 1 at least, p + z √v is too, for
+-- the operations keep the order. Assumes nothing.
 use mathlib.Core.Path.{_≡_, refl, sym, ap, _∙_, subst}
 use mathlib.Core.Bool.{Bool, true, false, cond}
 use mathlib.Core.Logic.{inl, inr}
@@ -6,7 +7,7 @@ use lib.Dec.{T, not-T}
 use lib.Ieee.{Float, nan, inf, fin, binary64, fits, round, add, mul, lt, le}
 use lib.Ieee.Bits.{is-true, is-false}
 use lib.Ieee.Fits.{sub-fits, mul-fits, round-fits}
-use Rattle.ln.specs.Ln.{_⊕_, _⊖_, _⊗_}
+use Rattle.rounding.specs.Doubles.{_⊕_, _⊖_, _⊗_, zero, one}
 use Rattle.rounding.proofs.Compare.{holds, le-of-lt, lt-not-le, infinite-or-positive}
 use Rattle.rounding.proofs.FromZero.{nonneg, unsigned, nonneg-of-positive, unsigned-of-nonneg, nonneg-below, le-self, le-chain, add-unsigned, mul-unsigned}
 use Rattle.rounding.proofs.Monotone.{add-keeps, mul-keeps}
@@ -15,7 +16,7 @@ use Rattle.sqrt.specs.Sqrt.{sqrtOf}
 use Rattle.sqrt.proofs.Above.{root-above-test}
 use Rattle.sqrt.proofs.Range.{root-nonneg}
 use Rattle.sqrt.proofs.Special.{root-of-infinity}
-use Rattle.prediction.specs.Doubles.{zero, one, z995, atMostOne}
+use Rattle.counts.specs.Doubles.{z995, atMostOne}
 
 pub z-nonneg : T (nonneg z995)
 unfolding z995 round
@@ -42,7 +43,8 @@ not-below-one (fin s m e) y (fin r n d) a b u h k = is-false (lt more one) (not-
     let g : lt more one ≡ true = is-true (lt more one) t in
     let f : T (nonneg more) = nonneg-below more one u' tt (le-of-lt more one g) in
     let l : T (le less more) = add-keeps binary64 p p y (fin r n d) a a b u (le-self p a) h in
-    lt-not-le one more tt u' g (le-chain one less more tt (nonneg-below less more (add-unsigned binary64 p y (unsigned-of-nonneg p a) (unsigned-of-nonneg y b)) f l) f k l)))
+    let o : T (nonneg less) = nonneg-below less more (add-unsigned binary64 p y (unsigned-of-nonneg p a) (unsigned-of-nonneg y b)) f l in
+    lt-not-le one more tt u' g (le-chain one less more tt o f k l)))
   where
     p : Float
     p = fin s m e
@@ -62,11 +64,14 @@ infinity-not-below nan a = absurd a
 infinity-not-below (inf s) a = absurd a
 infinity-not-below (fin s m e) a = refl
 
-root-not-below : (p w v : Float) → T (nonneg p) → Between zero w one → T (fits binary64 w) → T (fits binary64 v) → lt (w ⊗ w) v ≡ true → T (le one (p ⊕ z995 ⊗ w)) → lt (p ⊕ z995 ⊗ sqrtOf binary64 v) one ≡ false
+root-not-below : (p w v : Float) → T (nonneg p) → Between zero w one → T (fits binary64 w) → T (fits binary64 v) → lt (w ⊗ w) v ≡ true
+    → T (le one (p ⊕ z995 ⊗ w)) → lt (p ⊕ z995 ⊗ sqrtOf binary64 v) one ≡ false
 root-not-below p w v a r f g t k =
     let u : T (unsigned w) = unsigned-of-nonneg w (r .finite) in
     elim (infinite-or-positive (w ⊗ w) v (mul-unsigned binary64 w w u u) t) [
-      | inl e ↦ subst (λ (x : Float). lt (p ⊕ z995 ⊗ x) one ≡ false) (sym (ap (sqrtOf binary64) e ∙ root-of-infinity binary64)) (infinity-not-below p a)
+      | inl e ↦
+          subst (λ (x : Float). lt (p ⊕ z995 ⊗ x) one ≡ false) (sym (ap (sqrtOf binary64) e ∙ root-of-infinity binary64))
+          (infinity-not-below p a)
       | inr q ↦
           let s = sqrtOf binary64 v in
           let n : T (nonneg s) = root-nonneg v g (nonneg-of-positive v q) in
@@ -76,8 +81,8 @@ root-not-below p w v a r f g t k =
     ]
 
 -- with w the part q of 1 - p
-pub bound-is-one : (p v q : Float) → lt zero p ≡ true → T (le p one) → T (nonneg q) → T (le q one) → T (fits binary64 v) → lt ((one ⊖ p) ⊗ q ⊗ ((one ⊖ p) ⊗ q)) v ≡ true
-    → le one (p ⊕ z995 ⊗ ((one ⊖ p) ⊗ q)) ≡ true → atMostOne (p ⊕ z995 ⊗ sqrtOf binary64 v) ≡ one
+pub bound-is-one : (p v q : Float) → lt zero p ≡ true → T (le p one) → T (nonneg q) → T (le q one) → T (fits binary64 v)
+    → lt ((one ⊖ p) ⊗ q ⊗ ((one ⊖ p) ⊗ q)) v ≡ true → le one (p ⊕ z995 ⊗ ((one ⊖ p) ⊗ q)) ≡ true → atMostOne (p ⊕ z995 ⊗ sqrtOf binary64 v) ≡ one
 bound-is-one p v q a b c d f t k =
     let n = share-nonneg p a b in
     let o = complement-range binary64 p n b in

@@ -8,13 +8,13 @@ use Rattle.answer.specs.Refused.{minusOne, refused, ran}
 use Rattle.answer.specs.declared.Answer.{Answer}
 use Rattle.answer.specs.declared.Estimate.{Estimate}
 use Rattle.entropy.specs.MinEntropy.{minEntropyOf}
-use Rattle.ln.specs.Ln.{_⊕_, _⊖_, _⊗_, _⊘_}
+use Rattle.rounding.specs.Doubles.{_⊕_, _⊖_, _⊗_, _⊘_, zero, one, whole}
 use Rattle.sqrt.specs.Sqrt.{sqrtOf}
 use Rattle.zero_count.specs.ZeroCount.{zeroCountBound}
-use Rattle.prediction.specs.Bisection.{logAlpha, localValue, localRounds}
-use Rattle.prediction.specs.Counts.{impossibleCounts}
-use Rattle.prediction.specs.Doubles.{zero, one, whole, z995, atMostOne, larger}
-use Rattle.prediction.specs.Function.{valueAt}
+use Rattle.bisect.specs.Bisection.{logAlpha, localValue, localRounds}
+use Rattle.counts.specs.Counts.{impossibleCounts}
+use Rattle.counts.specs.Doubles.{z995, atMostOne, larger}
+use Rattle.function.specs.Function.{valueAt}
 
 -- C / N; "N = 0 gives 1, and p_global is 0 there"
 unfoldable pub pGlobal : ℕ → ℕ → Float

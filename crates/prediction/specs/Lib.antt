@@ -1,5 +1,1 @@
-pub mod Bisection
-pub mod Counts
-pub mod Doubles
 pub mod Estimate
-pub mod Function

@@ -1,23 +1,23 @@
 // The estimate from the counts (Rust: prediction_estimate).
-use crate::at_most_one;
-use crate::bisect::log_alpha;
-use crate::bisect::solve;
-use crate::function::value_at;
-use crate::larger_of;
 use answer::Answer;
 use answer::DONE;
 use answer::Estimate;
 use answer::IMPOSSIBLE;
 use answer::Solved;
+use bisect::log_alpha;
+use bisect::solve;
+use counts::doubles::at_most_one;
+use counts::doubles::larger_of;
+use function::value_at;
 ghost use mathlib.Core.Path.{_≡_};
 ghost use mathlib.Core.Bool.{true};
 ghost use Prim.Native.Nat.{_≤_};
 ghost use lib.Dec.{T};
 ghost use lib.Ieee.{binary64, le, lt};
-ghost use Rattle.ln.specs.Ln.{_⊕_, _⊗_};
+ghost use Rattle.rounding.specs.Doubles.{_⊕_, _⊗_, one, zero};
 ghost use Rattle.sqrt.specs.Sqrt.{sqrtOf};
-ghost use Rattle.prediction.specs.Counts.{countLimit};
-ghost use Rattle.prediction.specs.Doubles.{atMostOne, one, z995, zero};
+ghost use Rattle.counts.specs.Counts.{countLimit};
+ghost use Rattle.counts.specs.Doubles.{atMostOne, z995};
 ghost use Rattle.prediction.specs.Estimate.{canRaise, estimateOf, estimatedOf, floorFrom, pGlobal, pLocal, primeOf, roundsFor, upperBound};
 
 // The 0.995 quantile of the normal distribution.
@@ -132,7 +132,7 @@ fn estimated(c: u64, n: u64, max_run_len: u64, k: u64) -> Answer
 pub fn prediction_estimate(c: u64, n: u64, max_run_len: u64, k: u64) -> Answer
     ensures { λ r. ⌜ r ≡ estimateOf c n «max_run_len» k ⌝ }
 {
-    if crate::impossible_counts(c, n, max_run_len, k) {
+    if counts::impossible_counts(c, n, max_run_len, k) {
         return answer::refused_as(IMPOSSIBLE);
     }
     estimated(c, n, max_run_len, k)

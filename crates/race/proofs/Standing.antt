@@ -8,7 +8,9 @@ use native.Mathlib.Numerals.{add-one}
 use lib.Dec.{leb}
 use lib.ListN.{length, getD, set, replicate, length-set, length-replicate, length-append, List·getD-append}
 use lib.Seq.{getD-set-same, getD-set-other, getD-at}
-use Rattle.race.specs.Race.{Guess, silent, Verdict, hit, miss, none, judge, Standing, point, settle, scored, Event, longest, standing, event, events, correct, longestRun, finalScore}
+use Rattle.race.specs.inner.Ends.{finalScore}
+use Rattle.race.specs.Race.{Guess, silent, Verdict, hit, miss, none, judge, Standing, point, settle, scored, Event, longest}
+use Rattle.race.specs.Race.{standing, event, events, hits}
 use Rattle.race.proofs.Cases.{same?}
 use Rattle.race.proofs.Trace.{hits-le, longest-le-hits, hits-longest}
 
@@ -33,7 +35,8 @@ cond-lt false j w m p q = q
 
 settle-winner : (v : Verdict) (st : Standing) (j m : ℕ) → j < m → st .winner < m → settle v st j .winner < m
 settle-winner hit st j m p q =
-    cond-lt (leb (getD (set (st .scores) j (getD (st .scores) j 0 + 1)) (st .winner) 0) (getD (set (st .scores) j (getD (st .scores) j 0 + 1)) j 0)) j (st .winner) m p q
+    cond-lt (leb (getD (set (st .scores) j (getD (st .scores) j 0 + 1)) (st .winner) 0) (getD (set (st .scores) j (getD (st .scores) j 0 + 1)) j 0)) j
+    (st .winner) m p q
 settle-winner miss st j m p q = q
 settle-winner none st j m p q = q
 
@@ -123,20 +126,21 @@ module _ (m first : ℕ) (guess : ℕ → ℕ → Guess) (truth : ℕ → ℕ) w
   events-at (suc n) i d l =
       same? i n
       (λ e. rw e (getD-at (events m first guess truth n) (event m first guess truth n) [] d n (events-length n)))
-      (λ e. List·getD-append (events m first guess truth n) (event m first guess truth n ∷ []) d i (omega (arith, events-length n)) ∙ events-at n i d (omega arith))
+      (λ e. List·getD-append (events m first guess truth n) (event m first guess truth n ∷ []) d i (omega (arith, events-length n))
+      ∙ events-at n i d (omega arith))
 
   pub events-place : (n i : ℕ) (d : Event) → i < n → getD (events m first guess truth n) i d .place ≡ first + i
   unfolding event
   events-place n i d l = ap (λ (e : Event). e .place) (events-at n i d l)
 
   -- C is at most N, the longest run at most C, and where C is above 0 so is the run
-  pub correct-le : (n : ℕ) → correct m first guess truth n ≤ n
+  pub correct-le : (n : ℕ) → hits (events m first guess truth n) ≤ n
   correct-le n = omega (arith, hits-le (events m first guess truth n), events-length n)
 
-  pub run-le-correct : (n : ℕ) → longestRun m first guess truth n ≤ correct m first guess truth n
+  pub run-le-correct : (n : ℕ) → longest (events m first guess truth n) ≤ hits (events m first guess truth n)
   run-le-correct n = longest-le-hits (events m first guess truth n)
 
-  pub correct-run : (n : ℕ) → 0 < correct m first guess truth n → 0 < longestRun m first guess truth n
+  pub correct-run : (n : ℕ) → 0 < hits (events m first guess truth n) → 0 < longest (events m first guess truth n)
   correct-run n = hits-longest (events m first guess truth n)
 
   pub final-score-le : (n : ℕ) → finalScore m first guess truth n ≤ n
@@ -144,7 +148,8 @@ module _ (m first : ℕ) (guess : ℕ → ℕ → Guess) (truth : ℕ → ℕ) w
 
   -- nothing but the guesses and the truth of the places passed counts
   module _ (guess′ : ℕ → ℕ → Guess) (truth′ : ℕ → ℕ) where
-    pub standing-ext : (n : ℕ) → ((i j : ℕ) → i < n → j < m → guess (first + i) j ≡ guess′ (first + i) j) → ((i : ℕ) → i < n → truth (first + i) ≡ truth′ (first + i))
+    pub standing-ext : (n : ℕ) → ((i j : ℕ) → i < n → j < m → guess (first + i) j ≡ guess′ (first + i) j) →
+        ((i : ℕ) → i < n → truth (first + i) ≡ truth′ (first + i))
         → standing m first guess truth n ≡ standing m first guess′ truth′ n
     unfolding standing
     standing-ext zero g t = refl
@@ -152,13 +157,19 @@ module _ (m first : ℕ) (guess : ℕ → ℕ → Guess) (truth : ℕ → ℕ) w
         rw (t n (omega arith), standing-ext n (λ i j l. g i j (omega arith)) (λ i l. t i (omega arith)))
         (scored-ext (guess (first + n)) (truth′ (first + n)) (standing m first guess′ truth′ n) (guess′ (first + n)) m (λ j l. g n j (omega arith) l))
 
-    pub event-ext : 0 < m → (n : ℕ) → ((i j : ℕ) → i ≤ n → j < m → guess (first + i) j ≡ guess′ (first + i) j) → ((i : ℕ) → i ≤ n → truth (first + i) ≡ truth′ (first + i))
+    pub event-ext : 0 < m → (n : ℕ) → ((i j : ℕ) → i ≤ n → j < m → guess (first + i) j ≡ guess′ (first + i) j) →
+        ((i : ℕ) → i ≤ n → truth (first + i) ≡ truth′ (first + i))
         → event m first guess truth n ≡ event m first guess′ truth′ n
     unfolding event
     event-ext p n g t =
-        rw (g n (standing m first guess truth n .winner) (omega arith) (standing-winner p n), t n (omega arith), standing-ext n (λ i j l. g i j (omega arith)) (λ i l. t i (omega arith)))
+        rw (
+          g n (standing m first guess truth n .winner) (omega arith) (standing-winner p n),
+          t n (omega arith),
+          standing-ext n (λ i j l. g i j (omega arith)) (λ i l. t i (omega arith)),
+        )
 
-    pub events-ext : 0 < m → (n : ℕ) → ((i j : ℕ) → i < n → j < m → guess (first + i) j ≡ guess′ (first + i) j) → ((i : ℕ) → i < n → truth (first + i) ≡ truth′ (first + i))
+    pub events-ext : 0 < m → (n : ℕ) → ((i j : ℕ) → i < n → j < m → guess (first + i) j ≡ guess′ (first + i) j) →
+        ((i : ℕ) → i < n → truth (first + i) ≡ truth′ (first + i))
         → events m first guess truth n ≡ events m first guess′ truth′ n
     unfolding events
     events-ext p zero g t = refl

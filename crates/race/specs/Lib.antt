@@ -1,2 +1,2 @@
 pub mod Race
-pub mod Held
+pub mod inner

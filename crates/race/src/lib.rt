@@ -3,7 +3,7 @@ ghost use mathlib.Core.Path.{_≡_};
 ghost use Prim.Native.Nat.{max};
 ghost use lib.ListN.{length};
 ghost use Rattle.race.specs.Race.{judge, scored};
-ghost use Rattle.race.specs.Held.{Countable, Leadable, Led, Scorable, after, heard, heardFrom, tallied};
+ghost use Rattle.race.specs.inner.Held.{Countable, Leadable, Led, Scorable, after, heard, heardFrom, tallied};
 
 // The guess of a sub-predictor that does not take part.
 pub const SILENT: u16 = 256;
@@ -44,7 +44,9 @@ pub struct Leader {
 // The points of one place, where x comes: each right guess gains one, and wins if its score is then at least the winner's.
 pub fn lead(scores: &mut [u64], guesses: &[u16], leader: Leader, x: u16) -> Leader
     requires { ⌜ Leadable (now scores) (now guesses) leader x ⌝ }
-    ensures { λ r. ⌜ Led (scored (heardFrom (now (guesses .entry))) x (after (leader .winner) (now (scores .entry))) (length (now (guesses .entry)))) r (now (scores .exit)) ⌝ }
+    ensures { λ r.
+        ⌜ Led (scored (heardFrom (now (guesses .entry))) x (after (leader .winner) (now (scores .entry))) (length (now (guesses .entry)))) r
+        (now (scores .exit)) ⌝ }
 {
     let mut winner = leader.winner;
     let mut bar = leader.bar;
@@ -76,7 +78,8 @@ fn at_least_one(x: u64) -> u64
 // The same where only the winner is kept. Returns the winner.
 pub fn score(scores: &mut [u64], guesses: &[u16], winner: usize, x: u16) -> usize
     requires { ⌜ Scorable (now scores) (now guesses) winner x ⌝ }
-    ensures { λ r. ⌜ after r (now (scores .exit)) ≡ scored (heardFrom (now (guesses .entry))) x (after winner (now (scores .entry))) (length (now (guesses .entry))) ⌝ }
+    ensures { λ r.
+        ⌜ after r (now (scores .exit)) ≡ scored (heardFrom (now (guesses .entry))) x (after winner (now (scores .entry))) (length (now (guesses .entry))) ⌝ }
 {
     let bar = at_least_one(scores[winner]);
     let r = lead(scores, guesses, Leader { winner, bar }, x);

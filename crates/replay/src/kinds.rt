@@ -1,14 +1,14 @@
 // One function for each kind of case: whether ours and the Rust's agree.
 use crate::captures;
-use crate::floats::few_units;
-use crate::floats::same;
-use crate::floats::within;
 use crate::numbers::byte;
 use crate::numbers::word;
 use answer::Answer;
 use answer::DONE;
 use answer::Estimate;
 use answer::TOO_SHORT;
+use near::few_units;
+use near::same;
+use near::within;
 use pattern::double_of;
 ghost use mathlib.Core.Path.{_≡_};
 ghost use Prim.Native.Nat.{_≤_, _<_};
@@ -65,7 +65,7 @@ fn starts(out: &[u8], expected: &[u8]) -> bool {
 
 pub fn dense_alphabet(symbols: &[u8], words: &[u8], expected: &[u8]) -> bool {
     let mut out = captures::room();
-    let r = alphabet::dense_alphabet(symbols, &mut out);
+    let r = dense::dense_alphabet(symbols, &mut out);
     if r.number != DONE {
         return false;
     }
@@ -77,7 +77,7 @@ pub fn dense_alphabet(symbols: &[u8], words: &[u8], expected: &[u8]) -> bool {
 
 pub fn value_sorted_alphabet(symbols: &[u8], words: &[u8], expected: &[u8]) -> bool {
     let mut out = captures::room();
-    let r = alphabet::value_sorted_alphabet(symbols, &mut out);
+    let r = rising::value_sorted_alphabet(symbols, &mut out);
     if r.number != DONE {
         return false;
     }
@@ -124,7 +124,7 @@ pub fn min_entropy(words: &[u8]) -> bool {
 
 pub fn calc_p_local(words: &[u8]) -> bool {
     let ldomain = double_of(word(words, 2));
-    let r = prediction::bisect::calc_p_local(word(words, 0), word(words, 1), ldomain);
+    let r = bisect::calc_p_local(word(words, 0), word(words, 1), ldomain);
     if r.number != DONE {
         return false;
     }

@@ -2,7 +2,6 @@
 // and how many differ. The list's form stands in host/src/bin/sample/main.rs, which writes it.
 mod captures;
 mod cases;
-mod floats;
 mod kinds;
 mod lines;
 mod numbers;

@@ -18,7 +18,8 @@ refused a out h =
     (ap (λ (b : Bool). cond b 0 (length (lineOf a))) e, ap (λ (b : Bool). cond b out (lineOf a ++ drop (length (lineOf a)) out)) e)
 
 -- the whole line stored
-pub whole : (a : Answer) (l out : List ℕ) (r : ℕ) → longest ≤ length l → r ≤ longest → Wrote l 0 (countsOf a ++ estimatesOf (a .estimate)) out r → (r ≡ lengthIn a l) × (out ≡ lineIn a l)
+pub whole : (a : Answer) (l out : List ℕ) (r : ℕ) → longest ≤ length l → r ≤ longest → Wrote l 0 (countsOf a ++ estimatesOf (a .estimate)) out r →
+    (r ≡ lengthIn a l) × (out ≡ lineIn a l)
 unfolding lengthIn lineIn lineOf
 whole a l out r h s w =
     let e = sym (le-ltb (length l) longest h) in

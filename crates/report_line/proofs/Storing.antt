@@ -19,7 +19,8 @@ pub set-behind : (l : List ℕ) (i : ℕ) (s : List ℕ) (a j : ℕ) → j ≡ i
 set-behind l i s a j e = ap (λ (k : ℕ). set (sets l i s) k a) e ∙ sets-append l i s (a ∷ [])
 
 -- a word of k bytes, at most m, and one byte behind it
-pub behind : (at : ℕ) (l word out : List ℕ) (a m : ℕ) {k : ℕ} → length word ≡ k → out ≡ sets l at word → k ≤ m → (at + k + 1 ≡ at + length (word ++ (a ∷ []))) × (set out (at + k) a ≡ sets l at (word ++ (a ∷ []))) × (at + k + 1 ≤ at + suc m)
+pub behind : (at : ℕ) (l word out : List ℕ) (a m : ℕ) {k : ℕ} → length word ≡ k → out ≡ sets l at word → k ≤ m →
+    (at + k + 1 ≡ at + length (word ++ (a ∷ []))) × (set out (at + k) a ≡ sets l at (word ++ (a ∷ []))) × (at + k + 1 ≤ at + suc m)
 behind at l word out a m {k} e p h = (
   omega (arith, length-append word (a ∷ [])),
   ap (λ (o : List ℕ). set o (at + k) a) p ∙ set-behind l at word a (at + k) (omega arith),
@@ -32,7 +33,8 @@ pub record Wrote (l : List ℕ) (i : ℕ) (text out : List ℕ) (next : ℕ) : T
   pub behind : next ≡ i + length text
 
 -- and more text behind it
-pub more : {l : List ℕ} {i : ℕ} {text out : List ℕ} {next : ℕ} (w out′ : List ℕ) (next′ : ℕ) → Wrote l i text out next → next′ ≡ next + length w → out′ ≡ sets out next w → Wrote l i (text ++ w) out′ next′
+pub more : {l : List ℕ} {i : ℕ} {text out : List ℕ} {next : ℕ} (w out′ : List ℕ) (next′ : ℕ) → Wrote l i text out next → next′ ≡ next + length w →
+    out′ ≡ sets out next w → Wrote l i (text ++ w) out′ next′
 more {l} {i} {text} {out} {next} w out′ next′ h e p = record {
   stored = p ∙ ap (λ (o : List ℕ). sets o next w) (h .stored) ∙ ap (λ (k : ℕ). sets (sets l i text) k w) (h .behind) ∙ sets-append l i text w;
   behind = omega (arith, e, h .behind, length-append text w);

@@ -8,7 +8,8 @@ ghost use Prim.Native.Nat.{_+_, _≤_, _<_};
 ghost use lib.ListN.{length};
 ghost use lib.Seq.{sets};
 ghost use Rattle.report_line.specs.Line.{countsOf, estimatesOf, lineIn, lengthIn};
-ghost use Rattle.report_line.specs.Numerals.{decimal as Numerals·decimal, digits as Numerals·digits, glyph as Numerals·glyph, pattern as Numerals·pattern, places as Numerals·places};
+ghost use Rattle.report_line.specs.Numerals.{decimal as Numerals·decimal, digits as Numerals·digits, glyph as Numerals·glyph};
+ghost use Rattle.report_line.specs.Numerals.{pattern as Numerals·pattern, places as Numerals·places};
 
 // The longest line: six numbers of at most 20 digits, four of 16, a space or the line's end after each.
 pub const LONGEST: usize = 194;
@@ -45,7 +46,8 @@ fn digits(n: u64, base: u64, k: usize, out: &mut [u8], at: usize)
 // Puts n in decimal, and a byte after it. Returns the place that is next.
 fn decimal(n: u64, out: &mut [u8], at: usize, after: u8) -> usize
     requires { ⌜ at + 21 ≤ length (now out) ⌝ }
-    ensures { λ r. ⌜ (r ≡ at + length (Numerals·decimal n ++ (after ∷ []))) × (now (out .exit) ≡ sets (now (out .entry)) at (Numerals·decimal n ++ (after ∷ []))) × (r ≤ at + 21) ⌝ }
+    ensures { λ r. ⌜ (r ≡ at + length (Numerals·decimal n ++ (after ∷ []))) ×
+        (now (out .exit) ≡ sets (now (out .entry)) at (Numerals·decimal n ++ (after ∷ []))) × (r ≤ at + 21) ⌝ }
 {
     let k = places(n);
     digits(n, 10, k, out, at);
@@ -56,7 +58,8 @@ fn decimal(n: u64, out: &mut [u8], at: usize, after: u8) -> usize
 // Puts a double's bits as 16 hex digits, and a byte after them. Returns the place that is next.
 fn pattern(x: f64, out: &mut [u8], at: usize, after: u8) -> usize
     requires { ⌜ at + 17 ≤ length (now out) ⌝ }
-    ensures { λ r. ⌜ (r ≡ at + length (Numerals·pattern x ++ (after ∷ []))) × (now (out .exit) ≡ sets (now (out .entry)) at (Numerals·pattern x ++ (after ∷ []))) × (r ≤ at + 17) ⌝ }
+    ensures { λ r. ⌜ (r ≡ at + length (Numerals·pattern x ++ (after ∷ []))) ×
+        (now (out .exit) ≡ sets (now (out .entry)) at (Numerals·pattern x ++ (after ∷ []))) × (r ≤ at + 17) ⌝ }
 {
     digits(pattern::bits_of(x), 16, 16, out, at);
     out[at + 16] = after;

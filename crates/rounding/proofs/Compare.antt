@@ -1,4 +1,5 @@
--- Comparison of floats is comparison of the exact values: the code's tests `<`, `<=`, `==` of two finite values not below zero, as facts of their fractions, and back.
+-- Comparison of floats is comparison of the exact values: the code's tests `<`, `<=`, `==` of two finite values not below zero, as facts of their
+-- fractions, and back.
 -- `cross-of-le` and `le-of-cross` of FromZero are the rest of `<=`. Assumes nothing.
 use mathlib.Core.Path.{_≡_, refl, sym, _∙_, subst}
 use Prim.Native.Nat.{_*_, _≤_, _<_, zero-le}
@@ -67,7 +68,8 @@ eq-is (fin false m e) (fin false n d) p q = refl
 
 module _ (x y : Float) (p : T (nonneg x)) (q : T (nonneg y)) where
   pub eq-true : eq x y ≡ true → num x * den y ≡ num y * den x
-  eq-true e = eqb→eq (num x * den y) (num y * den x) (and-l (eqb (num x * den y) (num y * den x)) true (holds (eqb (num x * den y) (num y * den x) && true) (sym (eq-is x y p q) ∙ e)))
+  eq-true e = eqb→eq (num x * den y) (num y * den x)
+      (and-l (eqb (num x * den y) (num y * den x)) true (holds (eqb (num x * den y) (num y * den x) && true) (sym (eq-is x y p q) ∙ e)))
 
   pub eq-is-true : num x * den y ≡ num y * den x → eq x y ≡ true
   eq-is-true h = eq-is x y p q ∙ is-true (eqb (num x * den y) (num y * den x) && true) (and-i (eqb (num x * den y) (num y * den x)) true (eq→eqb h) tt)

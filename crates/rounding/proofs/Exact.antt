@@ -2,7 +2,9 @@
 -- `Held f a c` says that a / c is q * 2 ^ j of the format's smallest value, with a q that the format's digits hold. Assumes nothing.
 use mathlib.Core.Path.{_≡_, sym, ap, _∙_, subst}
 use Prim.Native.Nat.{ℕ, zero, suc, _+_, _-_, _*_, _%_, _^_, _≤_, _<_}
-use native.Mathlib.Nat.{le-trans, le-of-eq, lt-of-lt-of-le, lt-of-le-of-lt, le-of-suc-le-suc, lt-of-not-le, not-le-of-lt, eq-of-mul-eq-mul-right, zero-mul, mul-one, mul-assoc, mul-right-comm, mul-lt-mul-of-pos-right, le-of-mul-le-mul-right, lt-of-mul-lt-mul-right, mul-pos}
+use native.Mathlib.Nat.{le-trans, le-of-eq, lt-of-lt-of-le, lt-of-le-of-lt, le-of-suc-le-suc, lt-of-not-le, not-le-of-lt}
+use native.Mathlib.Nat.{eq-of-mul-eq-mul-right, zero-mul, mul-one, mul-assoc, mul-right-comm, mul-lt-mul-of-pos-right}
+use native.Mathlib.Nat.{le-of-mul-le-mul-right, lt-of-mul-lt-mul-right, mul-pos}
 use native.Mathlib.Omega.{arith}
 use mathlib.Core.Bool.{Bool, true, false, _&&_}
 use lib.IntN.{ℤ, pos, negsuc}
@@ -45,7 +47,8 @@ held-up f a c t h = record {
   q = h .q;
   j = h .j + t;
   digits = h .digits;
-  is = mul-right-comm a (2 ^ t) (2 ^ low f) ∙ ap (λ (z : ℕ). z * 2 ^ t) (h .is) ∙ turn (h .q) (2 ^ h .j) c (2 ^ t) ∙ ap (λ (z : ℕ). h .q * z * c) (sym (pow-add 2 (h .j) t));
+  is = mul-right-comm a (2 ^ t) (2 ^ low f) ∙ ap (λ (z : ℕ). z * 2 ^ t) (h .is) ∙ turn (h .q) (2 ^ h .j) c (2 ^ t)
+      ∙ ap (λ (z : ℕ). h .q * z * c) (sym (pow-add 2 (h .j) t));
 }
   where
     turn : (q p c t : ℕ) → q * p * c * t ≡ q * (p * t) * c
@@ -57,14 +60,18 @@ back l k h = omega arith
 -- a value that is held, over 2 ^ t, where that is in the normal range
 pub held-down : (f : Format) (a c t : ℕ) → 0 < c → 2 ^ (prec f - 1) * (c * 2 ^ t) ≤ a * 2 ^ low f → Held f a c → Held f a (c * 2 ^ t)
 held-down f a c t C N h =
-    let k : 2 ^ (prec f - 1 + t) ≤ h .q * 2 ^ h .j = le-trans (le-of-eq (pow-add 2 (prec f - 1) t)) (le-of-mul-le-mul-right (le-trans (le-of-eq (turn (2 ^ (prec f - 1)) (2 ^ t) c)) (le-trans N (le-of-eq (h .is)))) C) in
-    let l : 2 ^ (prec f - 1 + t) < 2 ^ (prec f + h .j) = lt-of-le-of-lt k (lt-of-lt-of-le (mul-lt-mul-of-pos-right (h .digits) (pow-pos (h .j))) (le-of-eq (sym (pow-add 2 (prec f) (h .j))))) in
+    let k : 2 ^ (prec f - 1 + t) ≤ h .q * 2 ^ h .j =
+    le-trans (le-of-eq (pow-add 2 (prec f - 1) t))
+    (le-of-mul-le-mul-right (le-trans (le-of-eq (turn (2 ^ (prec f - 1)) (2 ^ t) c)) (le-trans N (le-of-eq (h .is)))) C) in
+    let l : 2 ^ (prec f - 1 + t) < 2 ^ (prec f + h .j) =
+    lt-of-le-of-lt k (lt-of-lt-of-le (mul-lt-mul-of-pos-right (h .digits) (pow-pos (h .j))) (le-of-eq (sym (pow-add 2 (prec f) (h .j))))) in
     let r : t ≤ h .j = enough (prec f) t (h .j) (two-le-pos (prec f) (two f)) (pow-lt-inj (prec f - 1 + t) (prec f + h .j) l) in
     record {
       q = h .q;
       j = h .j - t;
       digits = h .digits;
-      is = h .is ∙ ap (λ (z : ℕ). h .q * z * c) (ap (λ (z : ℕ). 2 ^ z) (sym (back (h .j) t r)) ∙ pow-add 2 (h .j - t) t) ∙ again (h .q) (2 ^ (h .j - t)) (2 ^ t) c;
+      is = h .is ∙ ap (λ (z : ℕ). h .q * z * c) (ap (λ (z : ℕ). 2 ^ z) (sym (back (h .j) t r)) ∙ pow-add 2 (h .j - t) t)
+          ∙ again (h .q) (2 ^ (h .j - t)) (2 ^ t) c;
     }
   where
     enough : (p t j : ℕ) → 0 < p → p - 1 + t < p + j → t ≤ j
@@ -90,12 +97,21 @@ low-enough : (k l : ℕ) → 2 ^ suc k ≤ 2 ^ l → suc k ≤ l
 low-enough k l h = le-of-suc-le-suc (lt-of-not-le (λ (g : suc l ≤ suc k). not-le-of-lt (pow-lt g) h))
 
 held-fin : (f : Format) (m : ℕ) (e : ℤ) → m < 2 ^ prec f → down e ≤ 2 ^ low f → Held f (m * up e) (down e)
-held-fin f m (pos k) a b = record { q = m; j = k + low f; digits = a; is = mul-assoc m (2 ^ k) (2 ^ low f) ∙ ap (λ (z : ℕ). m * z) (sym (pow-add 2 k (low f))) ∙ sym (mul-one (m * 2 ^ (k + low f))) }
+held-fin f m (pos k) a b =
+    record {
+      q = m;
+      j = k + low f;
+      digits = a;
+      is = mul-assoc m (2 ^ k) (2 ^ low f) ∙ ap (λ (z : ℕ). m * z) (sym (pow-add 2 k (low f)))
+          ∙ sym (mul-one (m * 2 ^ (k + low f)));
+    }
 held-fin f m (negsuc k) a b = record {
   q = m;
   j = low f - suc k;
   digits = a;
-  is = ap (λ (z : ℕ). z * 2 ^ low f) (mul-one m) ∙ ap (λ (z : ℕ). m * z) (ap (λ (z : ℕ). 2 ^ z) (sym (back (low f) (suc k) (low-enough k (low f) b))) ∙ pow-add 2 (low f - suc k) (suc k)) ∙ sym (mul-assoc m (2 ^ (low f - suc k)) (2 ^ suc k));
+  is = ap (λ (z : ℕ). z * 2 ^ low f) (mul-one m)
+      ∙ ap (λ (z : ℕ). m * z) (ap (λ (z : ℕ). 2 ^ z) (sym (back (low f) (suc k) (low-enough k (low f) b))) ∙ pow-add 2 (low f - suc k) (suc k))
+      ∙ sym (mul-assoc m (2 ^ (low f - suc k)) (2 ^ suc k));
 }
 
 -- what `fits` says of a value that is not zero
@@ -160,7 +176,8 @@ module _ (f : Format) (x y : Float) (a c t : ℕ) (C : 0 < c) (h : T (fits f x))
       (subst (λ (z : ℕ). Held f (a * 2 ^ t) z) (sym (mul-one c)) (held-up f a c t (held-value f x a c h v)))
       (subst (λ (z : ℕ). a * 2 ^ t < 2 ^ suc (emax f) * z) (sym (mul-one c)) O))
 
-  pub scale-down : HasValue y false 1 (2 ^ t) → 2 ^ (prec f - 1) * (c * 2 ^ t) ≤ a * 2 ^ low f → a < 2 ^ suc (emax f) * (c * 2 ^ t) → HasValue (mul f x y) false a (c * 2 ^ t)
+  pub scale-down : HasValue y false 1 (2 ^ t) → 2 ^ (prec f - 1) * (c * 2 ^ t) ≤ a * 2 ^ low f → a < 2 ^ suc (emax f) * (c * 2 ^ t) →
+      HasValue (mul f x y) false a (c * 2 ^ t)
   scale-down w N O =
       subst (λ (z : ℕ). HasValue (mul f x y) false z (c * 2 ^ t)) (mul-one a)
       (mul-held f x y a c 1 (2 ^ t) C (pow-pos t) v w

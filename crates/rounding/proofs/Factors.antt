@@ -2,7 +2,8 @@
 -- Both directions of an error are this one relation, with the fractions exchanged. Assumes nothing.
 use mathlib.Core.Path.{_≡_, sym, ap, subst}
 use Prim.Native.Nat.{ℕ, suc, _+_, _*_, _^_, _≤_, _<_}
-use native.Mathlib.Nat.{le-refl, le-trans, le-of-suc-le-suc, lt-of-not-le, not-le-of-lt, mul-le-mul, mul-le-mul-right, mul-le-mul-left, le-of-mul-le-mul-right, pow-zero, pow-le-pow-left}
+use native.Mathlib.Nat.{le-refl, le-trans, le-of-suc-le-suc, lt-of-not-le, not-le-of-lt, mul-le-mul, mul-le-mul-right, mul-le-mul-left}
+use native.Mathlib.Nat.{le-of-mul-le-mul-right, pow-zero, pow-le-pow-left}
 use native.Mathlib.Omega.{arith}
 use lib.Pow.{pow-add}
 use Rattle.rounding.proofs.Powers.{pow-one, pow-above, at-most-two}
@@ -77,7 +78,9 @@ square-le a b h = le-of-suc-le-suc (lt-of-not-le (λ (g : suc b ≤ a). not-le-o
 pub under-root : (K E n d r s : ℕ) → Under K (E + E) (n * n) (d * d) (r * r) (s * s) → Under K E n d r s
 under-root K E n d r s h =
     square-le (n * s * K ^ E) (r * d * suc K ^ E)
-    (go (K ^ E) (suc K ^ E) (subst (λ (z : ℕ). n * n * (s * s) * z ≤ r * r * (d * d) * (suc K ^ E * suc K ^ E)) (pow-add K E E) (subst (λ (z : ℕ). n * n * (s * s) * K ^ (E + E) ≤ r * r * (d * d) * z) (pow-add (suc K) E E) h)))
+    (go (K ^ E) (suc K ^ E)
+    (subst (λ (z : ℕ). n * n * (s * s) * z ≤ r * r * (d * d) * (suc K ^ E * suc K ^ E)) (pow-add K E E)
+    (subst (λ (z : ℕ). n * n * (s * s) * K ^ (E + E) ≤ r * r * (d * d) * z) (pow-add (suc K) E E) h)))
   where
     go : (P Q : ℕ) → n * n * (s * s) * (P * P) ≤ r * r * (d * d) * (Q * Q) → n * s * P * (n * s * P) ≤ r * d * Q * (r * d * Q)
     go P Q h = omega arith

@@ -1,4 +1,5 @@
--- The finite values that are not below zero, +0 among them, each as the fraction `num` / `den` of `lib.Ieee.Positive`. Their order is the order of the fractions.
+-- The finite values that are not below zero, +0 among them, each as the fraction `num` / `den` of `lib.Ieee.Positive`. Their order is the order of
+-- the fractions.
 -- And the values with no minus sign, an infinity and a NaN among them, which sums, products and quotients do not leave. Assumes nothing.
 use mathlib.Core.Path.{refl, sym, subst}
 use mathlib.Core.Logic.{_⊎_, inl, inr}
@@ -81,7 +82,8 @@ fractions-of-le x y a c b d v w l =
     (cross-of-le x y (nonneg-of-value x a c v) (nonneg-of-value y b d w) l)
 
 pub le-chain : (x y z : Float) → T (nonneg x) → T (nonneg y) → T (nonneg z) → T (le x y) → T (le y z) → T (le x z)
-le-chain x y z p q r h k = le-of-cross x z p r (through (num x) (num y) (num z) (den x) (den y) (den z) (den-pos y) (cross-of-le x y p q h) (cross-of-le y z q r k))
+le-chain x y z p q r h k =
+    le-of-cross x z p r (through (num x) (num y) (num z) (den x) (den y) (den z) (den-pos y) (cross-of-le x y p q h) (cross-of-le y z q r k))
 
 pub zero-le-nonneg : (x : Float) → T (nonneg x) → T (le zero x)
 zero-le-nonneg x p = le-of-cross zero x tt p (subst (λ (z : ℕ). z ≤ num x * 1) (sym (zero-mul (den x))) zero-le)
@@ -116,10 +118,12 @@ odd-unsigned d q k l = unsigned-of-nonneg (odd d false q k l) (nonneg-of-value (
 
 units-unsigned : (f : Format) (q k : ℕ) → T (unsigned (units f false q k))
 unfolding units
-units-unsigned f q k = pick-unsigned (ltb (q * 2 ^ k) (2 ^ (low f + suc (emax f)))) (odd (suc (prec f)) false q k (low f)) (inf false) (odd-unsigned (suc (prec f)) q k (low f)) tt
+units-unsigned f q k =
+    pick-unsigned (ltb (q * 2 ^ k) (2 ^ (low f + suc (emax f)))) (odd (suc (prec f)) false q k (low f)) (inf false) (odd-unsigned (suc (prec f)) q k (low f)) tt
 
 pub round-unsigned : (f : Format) (a c : ℕ) → T (unsigned (round f false a c))
-round-unsigned f a c = subst (λ (z : Float). T (unsigned z)) (sym (round-is f false a c)) (units-unsigned f (kept (prec f) (a * 2 ^ low f) c) (drop (prec f) (a * 2 ^ low f) c))
+round-unsigned f a c =
+    subst (λ (z : Float). T (unsigned z)) (sym (round-is f false a c)) (units-unsigned f (kept (prec f) (a * 2 ^ low f) c) (drop (prec f) (a * 2 ^ low f) c))
 
 pub add-unsigned : (f : Format) (x y : Float) → T (unsigned x) → T (unsigned y) → T (unsigned (add f x y))
 unfolding add sum

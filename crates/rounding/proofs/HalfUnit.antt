@@ -1,4 +1,5 @@
--- A rounded value is at most half a unit in the last place from the exact one, subnormal values included. A value is counted in units of the format's smallest one, 2 ^ -low:
+-- A rounded value is at most half a unit in the last place from the exact one, subnormal values included. A value is counted in units of the format's
+-- smallest one, 2 ^ -low:
 -- it is `grid` of them, a multiple of 2 ^ `drop`, which is its unit in the last place. Assumes nothing.
 use mathlib.Core.Path.{_≡_}
 use Prim.Native.Nat.{ℕ, _+_, _*_, _/_, _%_, _^_, _≤_, _<_, compare, Ordering, Ordering·lt, Ordering·eq, Ordering·gt}

@@ -1,4 +1,5 @@
--- A sum, difference, product or quotient of finite values not below zero is the exact fraction, rounded once: by the operands' own fractions (`add-is`), or by any fractions that
+-- A sum, difference, product or quotient of finite values not below zero is the exact fraction, rounded once: by the operands' own fractions
+-- (`add-is`), or by any fractions that
 -- they equal (`add-at`). A difference is of a smaller from a larger value, and a divisor is above zero. Assumes nothing.
 use mathlib.Core.Path.{_≡_, refl, sym, ap, _∙_}
 use Prim.Native.Nat.{ℕ, _+_, _-_, _*_, _<_}
@@ -57,7 +58,8 @@ div-is f (fin false m e) nan p q = absurd q
 div-is f (fin false m e) (inf t) p q = absurd q
 div-is f (fin false m e) (fin true n d) p q = absurd q
 div-is f (fin false m e) (fin false n d) p q =
-    cond-no (eqb n 0) (cond (eqb m 0) nan (inf false)) (round f false (m * up e * down d) (n * up d * down e)) (not-T (eqb n 0) (λ (t : T (eqb n 0)). zero-not (ltb→lt 0 n q) (eqb→eq n 0 t)))
+    cond-no (eqb n 0) (cond (eqb m 0) nan (inf false)) (round f false (m * up e * down d) (n * up d * down e))
+    (not-T (eqb n 0) (λ (t : T (eqb n 0)). zero-not (ltb→lt 0 n q) (eqb→eq n 0 t)))
   where
     zero-not : 0 < n → n ≡ 0 → ⊥
     zero-not h e = omega arith
@@ -79,7 +81,8 @@ module _ (f : Format) (x y : Float) (a c b d : ℕ) (C : 0 < c) (D : 0 < d) (v :
   pub mul-at : mul f x y ≡ round f false (a * b) (c * d)
   mul-at =
       mul-is f x y p q
-      ∙ round-same f false (num x * num y) (den x * den y) (a * b) (c * d) (mul-pos (den-pos x) (den-pos y)) (mul-pos C D) (go (num x) (den x) (num y) (den y) v' w')
+      ∙ round-same f false (num x * num y) (den x * den y) (a * b) (c * d) (mul-pos (den-pos x) (den-pos y)) (mul-pos C D)
+      (go (num x) (den x) (num y) (den y) v' w')
     where
       go : (n e m g : ℕ) → n * c ≡ a * e → m * d ≡ b * g → n * m * (c * d) ≡ a * b * (e * g)
       go n e m g h k = omega (arith, ap (λ (z : ℕ). z * (m * d)) h, ap (λ (z : ℕ). a * e * z) k)
@@ -87,7 +90,8 @@ module _ (f : Format) (x y : Float) (a c b d : ℕ) (C : 0 < c) (D : 0 < d) (v :
   pub add-at : add f x y ≡ round f false (a * d + b * c) (c * d)
   add-at =
       add-is f x y p q
-      ∙ round-same f false (num x * den y + num y * den x) (den x * den y) (a * d + b * c) (c * d) (mul-pos (den-pos x) (den-pos y)) (mul-pos C D) (go (num x) (den x) (num y) (den y) v' w')
+      ∙ round-same f false (num x * den y + num y * den x) (den x * den y) (a * d + b * c) (c * d) (mul-pos (den-pos x) (den-pos y)) (mul-pos C D)
+      (go (num x) (den x) (num y) (den y) v' w')
     where
       go : (n e m g : ℕ) → n * c ≡ a * e → m * d ≡ b * g → (n * g + m * e) * (c * d) ≡ (a * d + b * c) * (e * g)
       go n e m g h k = omega (arith, ap (λ (z : ℕ). z * (g * d)) h, ap (λ (z : ℕ). z * (e * c)) k)
@@ -95,7 +99,8 @@ module _ (f : Format) (x y : Float) (a c b d : ℕ) (C : 0 < c) (D : 0 < d) (v :
   pub sub-at : T (le y x) → sub f x y ≡ round f false (a * d - b * c) (c * d)
   sub-at l =
       sub-is f x y p q l
-      ∙ round-same f false (num x * den y - num y * den x) (den x * den y) (a * d - b * c) (c * d) (mul-pos (den-pos x) (den-pos y)) (mul-pos C D) (go (num x) (den x) (num y) (den y) v' w')
+      ∙ round-same f false (num x * den y - num y * den x) (den x * den y) (a * d - b * c) (c * d) (mul-pos (den-pos x) (den-pos y)) (mul-pos C D)
+      (go (num x) (den x) (num y) (den y) v' w')
     where
       less : (k a b : ℕ) → (a - b) * k ≡ k * a - k * b
       less k a b = mul-comm (a - b) k ∙ mul-sub k a b

@@ -1,7 +1,8 @@
 -- Powers of whole numbers: of a product, of a power, in order, and Bernoulli's inequality. Assumes nothing.
 use mathlib.Core.Path.{_≡_, sym, ap, _∙_}
 use Prim.Native.Nat.{ℕ, zero, suc, _+_, _-_, _*_, _^_, _≤_, _<_}
-use native.Mathlib.Nat.{le-trans, le-of-eq, le-of-suc-le-suc, lt-of-not-le, not-le-of-lt, one-mul, mul-le-mul-right, mul-le-mul-left, le-of-mul-le-mul-right, mul-mul-mul-comm, pow-suc, pow-zero, one-le-pow, le-antisymm}
+use native.Mathlib.Nat.{le-trans, le-of-eq, le-of-suc-le-suc, lt-of-not-le, not-le-of-lt, one-mul, mul-le-mul-right, mul-le-mul-left}
+use native.Mathlib.Nat.{le-of-mul-le-mul-right, mul-mul-mul-comm, pow-suc, pow-zero, one-le-pow, le-antisymm}
 use native.Mathlib.Omega.{arith}
 use lib.Pow.{pow-add, pow-lt, pow-mono}
 

@@ -1,5 +1,7 @@
--- The error of a product of values that carry errors already, for chains of products such as a power: the exponents of the factors (1 + 2 ^ -prec) add up, and one more is for this rounding.
--- `product-under` bounds a product from above by any fraction r / s in the normal range, however small the product is; `product-over` bounds it from below. Assumes nothing.
+-- The error of a product of values that carry errors already, for chains of products such as a power: the exponents of the factors (1 + 2 ^ -prec)
+-- add up, and one more is for this rounding.
+-- `product-under` bounds a product from above by any fraction r / s in the normal range, however small the product is; `product-over` bounds it from
+-- below. Assumes nothing.
 use mathlib.Core.Path.{_≡_, sym, subst}
 use Prim.Native.Nat.{ℕ, suc, _+_, _-_, _*_, _^_, _≤_, _<_}
 use native.Mathlib.Nat.{le-trans, mul-le-mul, mul-le-mul-left, mul-le-mul-right, mul-pos, pow-le-pow-left}
@@ -33,7 +35,8 @@ module _ (f : Format) (a c r s : ℕ) (C : 0 < c) (S : 0 < s) (N : 2 ^ (prec f -
   pub round-under : a * s ≤ r * c → Under (2 ^ prec f) 1 (num z) (den z) r s
   round-under h =
       under-trans (2 ^ prec f) 0 1 (num z) (den z) (num w) (den w) r s (den-pos w)
-      (under-le (2 ^ prec f) (num z) (den z) (num w) (den w) (cross-of-le z w (finite-under h) (nonneg-of-positive w (near .above-zero)) (round-mono f a c r s C S h)))
+      (under-le (2 ^ prec f) (num z) (den z) (num w) (den w)
+      (cross-of-le z w (finite-under h) (nonneg-of-positive w (near .above-zero)) (round-mono f a c r s C S h)))
       (under-one (2 ^ prec f) (num w) (den w) r s (near .up-to))
 
   pub round-over : T (nonneg z) → r * c ≤ a * s → Under (2 ^ prec f) 1 r s (num z) (den z)
@@ -49,7 +52,8 @@ two-top binary64 = lit≤ tt
 next : (k : ℕ) → k ≤ suc k
 next k = omega arith
 
-module _ (f : Format) (x y : Float) (p : T (nonneg x)) (q : T (nonneg y)) (E F r₁ s₁ r₂ s₂ r s : ℕ) (S₁ : 0 < s₁) (S₂ : 0 < s₂) (S : 0 < s) (below : r ≤ s) (G : E + F + (E + F) ≤ 2 ^ prec f) where
+module _ (f : Format) (x y : Float) (p : T (nonneg x)) (q : T (nonneg y)) (E F r₁ s₁ r₂ s₂ r s : ℕ) (S₁ : 0 < s₁) (S₂ : 0 < s₂) (S : 0 < s)
+    (below : r ≤ s) (G : E + F + (E + F) ≤ 2 ^ prec f) where
   abbrev K : ℕ
   K = 2 ^ prec f
 
@@ -82,9 +86,14 @@ module _ (f : Format) (x y : Float) (p : T (nonneg x)) (q : T (nonneg y)) (E F r
       turn P Q U W h = omega arith
 
   -- at most r / s, which is in the normal range
-  module _ (N : 2 ^ (prec f - 1) * s ≤ r * 2 ^ low f) (h : r₁ * r₂ * s ≤ r * (s₁ * s₂)) (u : Under K E (num x) (den x) r₁ s₁) (v : Under K F (num y) (den y) r₂ s₂) where
+  module _ (N : 2 ^ (prec f - 1) * s ≤ r * 2 ^ low f) (h : r₁ * r₂ * s ≤ r * (s₁ * s₂)) (u : Under K E (num x) (den x) r₁ s₁)
+      (v : Under K F (num y) (den y) r₂ s₂) where
     exact-under : a * (s * K ^ (E + F)) ≤ r * suc K ^ (E + F) * c
-    exact-under = turn (K ^ (E + F)) (suc K ^ (E + F)) (under-add-zero (under-trans K (E + F) 0 a c (r₁ * r₂) (s₁ * s₂) r s (mul-pos S₁ S₂) (under-mul K E F (num x) (den x) r₁ s₁ (num y) (den y) r₂ s₂ u v) (under-le K (r₁ * r₂) (s₁ * s₂) r s h)))
+    exact-under =
+        turn (K ^ (E + F)) (suc K ^ (E + F))
+        (under-add-zero
+        (under-trans K (E + F) 0 a c (r₁ * r₂) (s₁ * s₂) r s (mul-pos S₁ S₂) (under-mul K E F (num x) (den x) r₁ s₁ (num y) (den y) r₂ s₂ u v)
+        (under-le K (r₁ * r₂) (s₁ * s₂) r s h)))
       where
         none : (n : ℕ) → n + 0 ≡ n
         none n = omega arith
@@ -123,12 +132,14 @@ module _ (f : Format) (x y : Float) (p : T (nonneg x)) (q : T (nonneg y)) (E F r
         turn n d P Q U W h = omega arith
 
   -- at least r / s, half of which is in the normal range
-  module _ (N : 2 ^ (prec f - 1) * (s * 2) ≤ r * 2 ^ low f) (h : r * (s₁ * s₂) ≤ r₁ * r₂ * s) (u : Under K E r₁ s₁ (num x) (den x)) (v : Under K F r₂ s₂ (num y) (den y)) where
+  module _ (N : 2 ^ (prec f - 1) * (s * 2) ≤ r * 2 ^ low f) (h : r * (s₁ * s₂) ≤ r₁ * r₂ * s) (u : Under K E r₁ s₁ (num x) (den x))
+      (v : Under K F r₂ s₂ (num y) (den y)) where
     exact-over : r * K ^ (E + F) * c ≤ a * (s * suc K ^ (E + F))
     exact-over =
         turn (K ^ (E + F)) (suc K ^ (E + F))
         (subst (λ (n : ℕ). Under K n r s a c) (none (E + F))
-        (under-trans K 0 (E + F) r s (r₁ * r₂) (s₁ * s₂) a c (mul-pos S₁ S₂) (under-le K r s (r₁ * r₂) (s₁ * s₂) h) (under-mul K E F r₁ s₁ (num x) (den x) r₂ s₂ (num y) (den y) u v)))
+        (under-trans K 0 (E + F) r s (r₁ * r₂) (s₁ * s₂) a c (mul-pos S₁ S₂) (under-le K r s (r₁ * r₂) (s₁ * s₂) h)
+        (under-mul K E F r₁ s₁ (num x) (den x) r₂ s₂ (num y) (den y) u v)))
       where
         none : (n : ℕ) → 0 + n ≡ n
         none n = omega arith
@@ -143,7 +154,8 @@ module _ (f : Format) (x y : Float) (p : T (nonneg x)) (q : T (nonneg y)) (E F r
         turn H L P Q n l = omega (arith, mul-le-mul-right P n, mul-le-mul-left (H * s) l)
 
     room-over : r * K ^ (E + F) ≤ 2 ^ emax f * (s * suc K ^ (E + F))
-    room-over = le-trans (mul-le-mul below (pow-le-pow-left (next K) (E + F))) (le-trans (turn (s * suc K ^ (E + F))) (mul-le-mul-right (s * suc K ^ (E + F)) (two-top f)))
+    room-over = le-trans (mul-le-mul below (pow-le-pow-left (next K) (E + F)))
+        (le-trans (turn (s * suc K ^ (E + F))) (mul-le-mul-right (s * suc K ^ (E + F)) (two-top f)))
       where
         turn : (n : ℕ) → n ≤ 2 * n
         turn n = omega arith
@@ -153,7 +165,8 @@ module _ (f : Format) (x y : Float) (p : T (nonneg x)) (q : T (nonneg y)) (E F r
         subst (λ (m : Float). Under K (E + F + 1) r s (num m) (den m)) (sym (mul-is f x y p q))
         (joined (r * den (round f false a c)) (num (round f false a c) * s)
         (turn (num (round f false a c)) (den (round f false a c)) (K ^ (E + F)) (suc K ^ (E + F)) (K ^ 1) (suc K ^ 1)
-        (round-over f a c (r * K ^ (E + F)) (s * suc K ^ (E + F)) C (mul-pos S up-pos) normal-over room-over (subst (λ (m : Float). T (nonneg m)) (mul-is f x y p q) t) exact-over)))
+        (round-over f a c (r * K ^ (E + F)) (s * suc K ^ (E + F)) C (mul-pos S up-pos) normal-over room-over
+        (subst (λ (m : Float). T (nonneg m)) (mul-is f x y p q) t) exact-over)))
       where
         turn : (n d P Q U W : ℕ) → r * P * d * U ≤ n * (s * Q) * W → r * d * P * U ≤ n * s * Q * W
         turn n d P Q U W h = omega arith

@@ -1,4 +1,5 @@
--- Ranges that hold whatever is rounded: c / n and 1 - p lie in 0..1, 1 / k for a k up to 2 ^ j is 2 ^ -j at least, a sum is not below its terms, a product with a share is not above the other
+-- Ranges that hold whatever is rounded: c / n and 1 - p lie in 0..1, 1 / k for a k up to 2 ^ j is 2 ^ -j at least, a sum is not below its terms, a
+-- product with a share is not above the other
 -- factor, and the midpoint of a and b lies between them. Assumes nothing.
 use mathlib.Core.Path.{_≡_, refl, sym, subst}
 use Prim.Native.Nat.{ℕ, _+_, _-_, _*_, _^_, _≤_, _<_}
@@ -13,7 +14,8 @@ use lib.Ieee.Exact.{HasValue}
 use lib.Ieee.Order.{le-of-values}
 use lib.Ieee.Back.{round-whole}
 use lib.Ieee.Positive.{num, den, positive, den-pos, value-pos, own-value, positive-of-value}
-use Rattle.rounding.proofs.FromZero.{zero as +0, one, nonneg, unsigned, nonneg-of-value, nonneg-of-positive, nonneg-below, value-of, cross-of-le, le-of-cross, zero-le-nonneg}
+use Rattle.rounding.proofs.FromZero.{zero as +0, one, nonneg, unsigned, nonneg-of-value, nonneg-of-positive, nonneg-below, value-of}
+use Rattle.rounding.proofs.FromZero.{cross-of-le, le-of-cross, zero-le-nonneg}
 use Rattle.rounding.proofs.Compare.{le-of-lt}
 use Rattle.rounding.proofs.Operations.{add-is, sub-is, mul-is, div-is, div-at}
 use Rattle.rounding.proofs.Monotone.{round-to, round-from, round-finite}
@@ -42,7 +44,8 @@ pub quotient-range : (f : Format) (x y : Float) → T (nonneg x) → T (positive
 quotient-range f x y p q h =
     let C : 0 < num y * den x = mul-pos (value-pos y (num y) (den y) q (den-pos y) (own-value y q)) (den-pos x) in
     let l : num x * den y * 1 ≤ 1 * (num y * den x) = same (num x * den y) (num y * den x) (cross-of-le x y p (nonneg-of-positive y q) h) in
-    let n : T (nonneg (round f false (num x * den y) (num y * den x))) = round-finite f (num x * den y) (num y * den x) 1 1 one C (zero-lt-suc 0) (one-fits f) (refl, refl) l in
+    let n : T (nonneg (round f false (num x * den y) (num y * den x))) =
+    round-finite f (num x * den y) (num y * den x) 1 1 one C (zero-lt-suc 0) (one-fits f) (refl, refl) l in
     subst (λ (z : Float). Between +0 z one) (sym (div-is f x y p q)) (record {
       finite = n;
       from = zero-le-nonneg _ n;
@@ -89,7 +92,8 @@ complement-range f x p h =
     let C : 0 < c = mul-pos (zero-lt-suc 0) (den-pos x) in
     let l : a * 1 ≤ 1 * c = less (den x) (num x) in
     let n : T (nonneg (round f false a c)) = round-finite f a c 1 1 one C (zero-lt-suc 0) (one-fits f) (refl, refl) l in
-    subst (λ (z : Float). Between +0 z one) (sym (sub-is f one x tt p h)) (record { finite = n; from = zero-le-nonneg _ n; to = round-to f a c 1 1 one C (zero-lt-suc 0) (one-fits f) (refl, refl) l })
+    subst (λ (z : Float). Between +0 z one) (sym (sub-is f one x tt p h))
+    (record { finite = n; from = zero-le-nonneg _ n; to = round-to f a c 1 1 one C (zero-lt-suc 0) (one-fits f) (refl, refl) l })
   where
     less : (d n : ℕ) → (1 * d - n * 1) * 1 ≤ 1 * (1 * d)
     less d n = omega arith
@@ -99,7 +103,8 @@ pub product-below : (f : Format) (x y : Float) → T (nonneg x) → T (nonneg y)
 product-below f x y p q t h =
     let C : 0 < den x * den y = mul-pos (den-pos x) (den-pos y) in
     let l : num x * num y * den x ≤ num x * (den x * den y) = go (num x) (den x) (num y) (den y) (cross-of-le y one q tt h) in
-    let n : T (nonneg (round f false (num x * num y) (den x * den y))) = round-finite f (num x * num y) (den x * den y) (num x) (den x) x C (den-pos x) t (value-of x p) l in
+    let n : T (nonneg (round f false (num x * num y) (den x * den y))) =
+    round-finite f (num x * num y) (den x * den y) (num x) (den x) x C (den-pos x) t (value-of x p) l in
     subst (λ (z : Float). Between +0 z x) (sym (mul-is f x y p q)) (record {
       finite = n;
       from = zero-le-nonneg _ n;
@@ -113,7 +118,8 @@ product-below f x y p q t h =
 pub sum-above : (f : Format) (x y : Float) → T (nonneg x) → T (nonneg y) → T (fits f x) → T (le x (add f x y))
 sum-above f x y p q t =
     subst (λ (z : Float). T (le x z)) (sym (add-is f x y p q))
-    (round-from f (num x * den y + num y * den x) (den x * den y) (num x) (den x) x (mul-pos (den-pos x) (den-pos y)) (den-pos x) t (value-of x p) (go (num x) (den x) (num y) (den y)))
+    (round-from f (num x * den y + num y * den x) (den x * den y) (num x) (den x) x (mul-pos (den-pos x) (den-pos y)) (den-pos x) t (value-of x p)
+    (go (num x) (den x) (num y) (den y)))
   where
     go : (n d m e : ℕ) → n * (d * e) ≤ (n * e + m * d) * d
     go n d m e = omega arith

@@ -1,9 +1,12 @@
--- The relative error of a rounding, for either format: in the normal range and below overflow a sum, difference, product or quotient is within 1 part in 2 ^ prec of the exact value.
--- `Rounded` says so symmetrically, either is at most (1 + 2 ^ -prec) times the other, which is what composes (Factors); `within` gives |x - a / c| ≤ (a / c) * 2 ^ -prec.
+-- The relative error of a rounding, for either format: in the normal range and below overflow a sum, difference, product or quotient is within 1 part
+-- in 2 ^ prec of the exact value.
+-- `Rounded` says so symmetrically, either is at most (1 + 2 ^ -prec) times the other, which is what composes (Factors); `within` gives |x - a / c| ≤
+-- (a / c) * 2 ^ -prec.
 -- No real numbers: each bound is multiplied out. Assumes nothing.
 use mathlib.Core.Path.{_≡_, sym, ap, _∙_, subst}
 use Prim.Native.Nat.{ℕ, suc, _+_, _-_, _*_, _/_, _%_, _^_, _≤_, _<_, compare}
-use native.Mathlib.Nat.{le-trans, le-of-eq, lt-of-lt-of-le, mul-comm, mul-assoc, mul-le-mul-right, mul-le-mul-left, le-of-mul-le-mul-right, lt-of-mul-lt-mul-right, mul-pos, pow-suc, le-div-iff-mul-le}
+use native.Mathlib.Nat.{le-trans, le-of-eq, lt-of-lt-of-le, mul-comm, mul-assoc, mul-le-mul-right, mul-le-mul-left, le-of-mul-le-mul-right}
+use native.Mathlib.Nat.{lt-of-mul-lt-mul-right, mul-pos, pow-suc, le-div-iff-mul-le}
 use native.Mathlib.Omega.{arith}
 use mathlib.Core.Bool.{Bool, true, false, not}
 use lib.Dec.{T, leb, leb→le, nleb→lt}
@@ -92,7 +95,9 @@ round-near f a c C N O =
     let b = grid-near f a c C N in
     let small : G * K ≤ M * suc K = le-of-mul-le-mul-right (capped G c K a l (2 ^ emax f) (b .1) O) C in
     let room : overflow f ≡ 2 * M = pow-add 2 (low f) (suc (emax f)) ∙ ap (λ (z : ℕ). l * z) (pow-suc 2 (emax f)) ∙ turn l (2 ^ emax f) in
-    let v : HasValue x false G l = round-val f a c (subst (λ (z : ℕ). G < z) (sym room) (below-top G K M (one-lt-pow (prec f) (two f)) (mul-pos (pow-pos (emax f)) (pow-pos (low f))) small)) in
+    let v : HasValue x false G l =
+    round-val f a c
+    (subst (λ (z : ℕ). G < z) (sym room) (below-top G K M (one-lt-pow (prec f) (two f)) (mul-pos (pow-pos (emax f)) (pow-pos (low f))) small)) in
     let e : num x * l ≡ G * den x = value→cross x G l v in
     record {
       above-zero = positive-of-value x G l v (b .0);
@@ -128,7 +133,8 @@ module _ (f : Format) (x y : Float) (p : T (positive x)) (q : T (positive y)) wh
 
   pub mul-near : 2 ^ (prec f - 1) * (den x * den y) ≤ num x * num y * 2 ^ low f → num x * num y ≤ 2 ^ emax f * (den x * den y)
       → Rounded f (mul f x y) (num x * num y) (den x * den y)
-  mul-near N O = subst (λ (z : Float). Rounded f z (num x * num y) (den x * den y)) (sym (mul-is f x y p' q')) (round-near f (num x * num y) (den x * den y) D N O)
+  mul-near N O =
+      subst (λ (z : Float). Rounded f z (num x * num y) (den x * den y)) (sym (mul-is f x y p' q')) (round-near f (num x * num y) (den x * den y) D N O)
 
   pub add-near : 2 ^ (prec f - 1) * (den x * den y) ≤ (num x * den y + num y * den x) * 2 ^ low f → num x * den y + num y * den x ≤ 2 ^ emax f * (den x * den y)
       → Rounded f (add f x y) (num x * den y + num y * den x) (den x * den y)
@@ -137,7 +143,8 @@ module _ (f : Format) (x y : Float) (p : T (positive x)) (q : T (positive y)) wh
       (round-near f (num x * den y + num y * den x) (den x * den y) D N O)
 
   -- x - y for y ≤ x; a difference of 0 is exact, and not in the normal range
-  pub sub-near : T (le y x) → 2 ^ (prec f - 1) * (den x * den y) ≤ (num x * den y - num y * den x) * 2 ^ low f → num x * den y - num y * den x ≤ 2 ^ emax f * (den x * den y)
+  pub sub-near : T (le y x) → 2 ^ (prec f - 1) * (den x * den y) ≤ (num x * den y - num y * den x) * 2 ^ low f →
+      num x * den y - num y * den x ≤ 2 ^ emax f * (den x * den y)
       → Rounded f (sub f x y) (num x * den y - num y * den x) (den x * den y)
   sub-near h N O =
       subst (λ (z : Float). Rounded f z (num x * den y - num y * den x) (den x * den y)) (sym (sub-is f x y p' q' h))

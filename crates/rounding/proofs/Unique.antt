@@ -1,7 +1,10 @@
--- Of two values that a format holds, the fractions tell them apart; so a value that the format holds is what any fraction of its size rounds to. Assumes nothing.
+-- Of two values that a format holds, the fractions tell them apart; so a value that the format holds is what any fraction of its size rounds to.
+-- Assumes nothing.
 use mathlib.Core.Path.{_≡_, refl, sym, ap, _∙_}
 use Prim.Native.Nat.{ℕ, zero, suc, _+_, _*_, _%_, _^_, _<_}
-use native.Mathlib.Nat.{le-of-eq, lt-of-lt-of-le, lt-of-le-of-lt, zero-lt-suc, lt-irrefl, eq-of-mul-eq-mul-right, mul-one, one-mul, mul-assoc, mul-left-comm, mul-right-comm, mul-lt-mul-of-pos-right, lt-of-mul-lt-mul-right, mul-pos, pow-suc, pow-succ'}
+use native.Mathlib.Nat.{le-of-eq, lt-of-lt-of-le, lt-of-le-of-lt, zero-lt-suc, lt-irrefl, eq-of-mul-eq-mul-right, mul-one, one-mul}
+use native.Mathlib.Nat.{mul-assoc, mul-left-comm, mul-right-comm, mul-lt-mul-of-pos-right, lt-of-mul-lt-mul-right, mul-pos, pow-suc}
+use native.Mathlib.Nat.{pow-succ'}
 use native.Mathlib.Omega.{arith}
 use mathlib.Core.Bool.{true, false}
 use lib.IntN.{ℤ, pos, negsuc}
@@ -30,17 +33,20 @@ same-fin : (m n : ℕ) (e g : ℤ) → m % 2 ≡ 1 → n % 2 ≡ 1 → m * up e 
 same-fin m n (pos a) (pos b) o p h =
     let r = odd-pow m n a b o p (sym (mul-one (m * 2 ^ a)) ∙ h ∙ mul-one (n * 2 ^ b)) in (r .0, ap pos (r .1))
 same-fin m n (pos a) (negsuc b) o p h =
-    let r = odd-pow m n (a + suc b) 0 o p (ap (λ (z : ℕ). m * z) (pow-add 2 a (suc b)) ∙ sym (mul-assoc m (2 ^ a) (2 ^ suc b)) ∙ h ∙ mul-one (n * 1)) in absurd (none a b (r .1))
+    let r = odd-pow m n (a + suc b) 0 o p (ap (λ (z : ℕ). m * z) (pow-add 2 a (suc b)) ∙ sym (mul-assoc m (2 ^ a) (2 ^ suc b)) ∙ h
+    ∙ mul-one (n * 1)) in absurd (none a b (r .1))
   where
     none : (a b : ℕ) → a + suc b ≡ 0 → ⊥
     none a b e = omega arith
 same-fin m n (negsuc a) (pos b) o p h =
-    let r = odd-pow m n 0 (b + suc a) o p (sym (mul-one (m * 1)) ∙ h ∙ mul-assoc n (2 ^ b) (2 ^ suc a) ∙ ap (λ (z : ℕ). n * z) (sym (pow-add 2 b (suc a)))) in absurd (none a b (r .1))
+    let r = odd-pow m n 0 (b + suc a) o p
+    (sym (mul-one (m * 1)) ∙ h ∙ mul-assoc n (2 ^ b) (2 ^ suc a) ∙ ap (λ (z : ℕ). n * z) (sym (pow-add 2 b (suc a)))) in absurd (none a b (r .1))
   where
     none : (a b : ℕ) → 0 ≡ b + suc a → ⊥
     none a b e = omega arith
 same-fin m n (negsuc a) (negsuc b) o p h =
-    let r = odd-pow m n (suc b) (suc a) o p (ap (λ (z : ℕ). z * 2 ^ suc b) (sym (mul-one m)) ∙ h ∙ ap (λ (z : ℕ). z * 2 ^ suc a) (mul-one n)) in (r .0, ap negsuc (back' (r .1)))
+    let r = odd-pow m n (suc b) (suc a) o p (ap (λ (z : ℕ). z * 2 ^ suc b) (sym (mul-one m)) ∙ h ∙ ap (λ (z : ℕ). z * 2 ^ suc a) (mul-one n)) in
+    (r .0, ap negsuc (back' (r .1)))
   where
     back' : suc b ≡ suc a → a ≡ b
     back' e = omega arith
@@ -92,7 +98,8 @@ zero-fits f = tt
 pub round-fit : (f : Format) (x : Float) (a c : ℕ) → T (fits f x) → 0 < c → HasValue x false a c → round f false a c ≡ x
 round-fit f x a c t C v =
     same-value f (round f false a c) x a c C (round-fits f false a c) t
-    (round-held f a c C (held-value f x a c t v) (lt-of-mul-lt-mul-right (den x) (scaled (under-top-of-fits f x (nonneg-of-value x a c v) t) (value→cross x a c v)))) v
+    (round-held f a c C (held-value f x a c t v)
+    (lt-of-mul-lt-mul-right (den x) (scaled (under-top-of-fits f x (nonneg-of-value x a c v) t) (value→cross x a c v)))) v
   where
     scaled : num x < 2 ^ suc (emax f) * den x → num x * c ≡ a * den x → a * den x < 2 ^ suc (emax f) * c * den x
     scaled h e = lt-of-le-of-lt (le-of-eq (sym e)) (lt-of-lt-of-le (mul-lt-mul-of-pos-right h C) (le-of-eq (mul-right-comm (2 ^ suc (emax f)) (den x) c)))

@@ -1,4 +1,5 @@
--- The first nine rows of "Small captures to check by hand" hold, as one statement over their list: the prover computes each race from its definition. Assumes nothing.
+-- The first nine rows of "Small captures to check by hand" hold, as one statement over their list: the prover computes each race from its definition.
+-- Assumes nothing.
 use mathlib.Core.Path.{_≡_, refl, ap, _∙_}
 use mathlib.Core.Bool.{false, true}
 use mathlib.Core.List.{List, [], _∷_}
@@ -13,7 +14,7 @@ use Rattle.capture.specs.Bits.{bitAt, bitsOf, firstWide, table}
 use Rattle.capture.specs.Limit.{symbolLimit, widthOf}
 use Rattle.mmc_bits.specs.Counters as C
 use Rattle.mmc_bits.specs.Guesses as G
-use Rattle.mmc_bits.specs.Levels.{levels, cap}
+use Rattle.mmc_bits.specs.Levels.{levels, cap, firstPlace}
 use Rattle.mmc_bits.specs.Mmc as Bits
 use Rattle.mmc_bits.specs.Space.{size}
 use Rattle.mmc_store.specs.Counts as SC
@@ -21,10 +22,11 @@ use Rattle.mmc_store.specs.Levels as SL
 use Rattle.mmc_store.specs.Mmc as Store
 use Rattle.mmc_store.specs.Space.{size as storeSize}
 use Rattle.multi_mcw.specs.Tracks.{mcwBits}
-use Rattle.multi_mmc.specs.Tracks.{bitsEstimate, bitsNumber, bitsOfCapture, literalEstimate, literalNumber, mmcBits, mmcLiteral, needed, predictions, storeEstimate}
-use Rattle.prediction.specs.Counts.{countLimit, impossibleCounts}
+use Rattle.multi_mmc.specs.Tracks.{bitsEstimate, bitsNumber, bitsOfCapture, literalEstimate, literalNumber, mmcBits, mmcLiteral, needed}
+use Rattle.multi_mmc.specs.Tracks.{storeEstimate}
+use Rattle.counts.specs.Counts.{countLimit, impossibleCounts}
 use Rattle.prediction.specs.Estimate.{estimate, estimatedOf, estimateOf}
-use Rattle.race.specs.Race.{event, events, hits, longest, scored, standing, stretch}
+use Rattle.race.specs.Race.{event, events, hits, longest, predictions, scored, standing, stretch}
 use Rattle.small_captures.specs.SmallCaptures.{All, Right, Track, answerOf, mmc-bits, mmc-literal, more, none, rows}
 
 -- what an estimate of counts that can be holds
@@ -59,21 +61,21 @@ module _ (out space : List ℕ) (out-room : 6 ≤ length out) (room : storeSize 
       }
 
   -- bits that are not refused
-  bits-row : (b : List ℕ) (c n run : ℕ) → bitsNumber b 1 space ≡ 0 → Bits.correctOf levels cap (bitsOfCapture b 1) ≡ c
-      → predictions (bitsOfCapture b 1) ≡ n → Bits.longestOf levels cap (bitsOfCapture b 1) ≡ run → impossibleCounts c n run 2 ≡ false
+  bits-row : (b : List ℕ) (c n run : ℕ) → bitsNumber b 1 space ≡ 0 → hits (Bits.raceOf levels cap (bitsOfCapture b 1)) ≡ c
+      → predictions firstPlace (bitsOfCapture b 1) ≡ n → longest (Bits.raceOf levels cap (bitsOfCapture b 1)) ≡ run → impossibleCounts c n run 2 ≡ false
       → Right out space (record { track = mmc-bits; samples = b; number = 0; c = c; n = n; run = run })
   unfolding mmcBits bitsEstimate
   bits-row b c n run e p q l h = runs mmc-bits b c n run 2 (rw e (same-estimate 2 p q l)) h
 
   -- literals of at most two values, and of more
-  two-row : (s : List ℕ) (c n run : ℕ) → literalNumber s out space ≡ 0 → leb (distinct s) 2 ≡ true → Bits.correctOf levels cap (sorted s) ≡ c
-      → predictions (sorted s) ≡ n → Bits.longestOf levels cap (sorted s) ≡ run → impossibleCounts c n run 2 ≡ false
+  two-row : (s : List ℕ) (c n run : ℕ) → literalNumber s out space ≡ 0 → leb (distinct s) 2 ≡ true → hits (Bits.raceOf levels cap (sorted s)) ≡ c
+      → predictions firstPlace (sorted s) ≡ n → longest (Bits.raceOf levels cap (sorted s)) ≡ run → impossibleCounts c n run 2 ≡ false
       → Right out space (record { track = mmc-literal; samples = s; number = 0; c = c; n = n; run = run })
   unfolding mmcLiteral literalEstimate bitsEstimate
   two-row s c n run e d p q l h = runs mmc-literal s c n run 2 (rw (e, d) (same-estimate 2 p q l)) h
 
-  many-row : (s : List ℕ) (c n run : ℕ) → literalNumber s out space ≡ 0 → leb (distinct s) 2 ≡ false → Store.correctOf levels cap (sorted s) ≡ c
-      → predictions (sorted s) ≡ n → Store.longestOf levels cap (sorted s) ≡ run → impossibleCounts c n run (distinct s) ≡ false
+  many-row : (s : List ℕ) (c n run : ℕ) → literalNumber s out space ≡ 0 → leb (distinct s) 2 ≡ false → hits (Store.raceOf levels cap (sorted s)) ≡ c
+      → predictions firstPlace (sorted s) ≡ n → longest (Store.raceOf levels cap (sorted s)) ≡ run → impossibleCounts c n run (distinct s) ≡ false
       → Right out space (record { track = mmc-literal; samples = s; number = 0; c = c; n = n; run = run })
   unfolding mmcLiteral literalEstimate storeEstimate
   many-row s c n run e d p q l h = runs mmc-literal s c n run (distinct s) (rw (e, d) (same-estimate (distinct s) p q l)) h
@@ -86,7 +88,7 @@ module _ (out space : List ℕ) (out-room : 6 ≤ length out) (room : storeSize 
   unfolding
       bitsNumber literalNumber needed symbolLimit widthOf firstWide countLimit impossibleCounts mmcBits mcwBits
       bitAt bitsOf table distinct distinctBelow has rising
-      C.before C.context C.pair C.places C.occurs C.fresh C.distinct C.ahead C.counter G.verdict G.own G.guess
+      C.before C.context C.pair C.places C.occurs C.fresh C.ahead C.counter G.verdict G.own G.guess
       SC.same SC.present SC.count SC.largest SC.predicted SL.whenFound SL.whenAbsent SL.found SL.level SL.guess
       scored standing event events hits stretch longest
   nine-rows =
@@ -98,6 +100,7 @@ module _ (out space : List ℕ) (out-room : 6 ≤ length out) (room : storeSize 
       (more (bits-row (0 ∷ 1 ∷ 1 ∷ 0 ∷ []) 0 2 0 (rw bits-short) refl refl refl refl)
       (more (two-row (5 ∷ 5 ∷ 5 ∷ 5 ∷ []) 2 2 2 (rw (le-ltb (length out) 4 (omega arith), bits-short)) refl refl refl refl refl)
       (more
-      (many-row (10 ∷ 30 ∷ 10 ∷ 20 ∷ 10 ∷ 30 ∷ []) 1 4 1 (rw (le-ltb (length out) 6 out-room, le-ltb (length space) (storeSize levels) room)) refl refl refl refl refl)
+      (many-row (10 ∷ 30 ∷ 10 ∷ 20 ∷ 10 ∷ 30 ∷ []) 1 4 1
+      (rw (le-ltb (length out) 6 out-room, le-ltb (length space) (storeSize levels) room)) refl refl refl refl refl)
       (more (record { number-is = refl; c-is = refl; n-is = refl; run-is = refl })
       (more (record { number-is = refl; c-is = refl; n-is = refl; run-is = refl }) none)))))))))

@@ -2,7 +2,8 @@
 -- Where w * w, rounded, is below x, the exact w² is not above x, for rounding never passes x. Assumes nothing.
 use mathlib.Core.Path.{_≡_, refl, sym, ap, subst}
 use Prim.Native.Nat.{ℕ, zero, suc, _+_, _*_, _^_, _≤_, _<_}
-use native.Mathlib.Nat.{le-trans, le-of-eq, le-of-lt, lt-of-lt-of-le, lt-of-not-le, lt-irrefl, le-of-suc-le-suc, mul-le-mul, mul-le-mul-left, mul-le-mul-right, le-of-mul-le-mul-right, mul-pos}
+use native.Mathlib.Nat.{le-trans, le-of-eq, le-of-lt, lt-of-lt-of-le, lt-of-not-le, lt-irrefl, le-of-suc-le-suc, mul-le-mul}
+use native.Mathlib.Nat.{mul-le-mul-left, mul-le-mul-right, le-of-mul-le-mul-right, mul-pos}
 use native.Mathlib.Omega.{arith}
 use mathlib.Core.Bool.{true, false}
 use lib.Dec.{T}
@@ -17,7 +18,7 @@ use Rattle.rounding.proofs.Compare.{lt-not-le}
 use Rattle.rounding.proofs.Operations.{mul-is}
 use Rattle.rounding.proofs.Monotone.{round-from}
 use Rattle.sqrt.specs.Sqrt.{sqrtOf}
-use Rattle.sqrt.specs.Steps.{unitsOf}
+use Rattle.sqrt.specs.inner.Steps.{unitsOf}
 use Rattle.sqrt.proofs.AboveZero.{finite-pattern}
 use Rattle.sqrt.proofs.CorrectRounding.{Nearer, correctly-rounded}
 use Rattle.sqrt.proofs.Patterns.{value-of}
@@ -41,10 +42,14 @@ units-of (fin false zero e) p h = (0, (refl, none (up e) (2 ^ 1074) (down e)))
     none a b c = omega arith
 units-of (fin false (suc m) e) p h =
     let w = fin false (suc m) e in
-    let b = finite-pattern m e h in
-    (toBits binary64 w, subst (λ (v : Float). HasValue v false (unitsOf (toBits binary64 w)) (2 ^ 1074)) (ofBits-toBits binary64 w h) (value-of (toBits binary64 w) (b .1)))
+    let b = finite-pattern m e h in (
+      toBits binary64 w,
+      subst (λ (v : Float). HasValue v false (unitsOf (toBits binary64 w)) (2 ^ 1074)) (ofBits-toBits binary64 w h)
+          (value-of (toBits binary64 w) (b .1)),
+    )
 
-pub root-above : (x w : Float) → T (fits binary64 x) → T (positive x) → T (fits binary64 w) → T (nonneg w) → num w * num w * den x ≤ num x * (den w * den w) → T (le w (sqrtOf binary64 x))
+pub root-above : (x w : Float) → T (fits binary64 x) → T (positive x) → T (fits binary64 w) → T (nonneg w) →
+    num w * num w * den x ≤ num x * (den w * den w) → T (le w (sqrtOf binary64 x))
 root-above nan w h p k q l = absurd p
 root-above (inf s) w h p k q l = absurd p
 root-above (fin true m e) w h p k q l = absurd p
@@ -57,7 +62,9 @@ root-above (fin false (suc m) e) w h p k q l =
     let r = correctly-rounded b (i .0) (i .1) in
     let u = units-of w q k in
     let v : HasValue x false (unitsOf b) (2 ^ 1074) = subst (λ (z : Float). HasValue z false (unitsOf b) (2 ^ 1074)) o (value-of b (i .1)) in
-    let s : unitsOf (u .0) * unitsOf (u .0) ≤ unitsOf b * 2 ^ 1074 = squares (num x) (den x) (unitsOf b) (num w) (den w) (unitsOf (u .0)) (2 ^ 1074) (den-pos x) (den-pos w) (value→cross x (unitsOf b) (2 ^ 1074) v) (value→cross w (unitsOf (u .0)) (2 ^ 1074) (u .1)) l in
+    let s : unitsOf (u .0) * unitsOf (u .0) ≤ unitsOf b * 2 ^ 1074 =
+    squares (num x) (den x) (unitsOf b) (num w) (den w) (unitsOf (u .0)) (2 ^ 1074) (den-pos x) (den-pos w)
+    (value→cross x (unitsOf b) (2 ^ 1074) v) (value→cross w (unitsOf (u .0)) (2 ^ 1074) (u .1)) l in
     subst (λ (z : Float). T (le w (sqrtOf binary64 z))) o
     (le-of-values w (sqrtOf binary64 (ofBits binary64 b)) (unitsOf (u .0)) (2 ^ 1074) (r .0) (2 ^ 1074) (pow-pos 1074) (pow-pos 1074) (u .1) (r .1)
     (mul-le-mul-right (2 ^ 1074) (not-under (unitsOf b * 2 ^ 1074) (r .0) (unitsOf (u .0)) (r .2 (u .0)) s)))
@@ -75,7 +82,8 @@ root-above (fin false (suc m) e) w h p k q l =
         right e = omega arith
 
 -- by the test that code can make, of w * w rounded
-pub root-above-test : (x w : Float) → T (fits binary64 x) → T (positive x) → T (fits binary64 w) → T (nonneg w) → lt (mul binary64 w w) x ≡ true → T (le w (sqrtOf binary64 x))
+pub root-above-test : (x w : Float) → T (fits binary64 x) → T (positive x) → T (fits binary64 w) → T (nonneg w) → lt (mul binary64 w w) x ≡ true →
+    T (le w (sqrtOf binary64 x))
 root-above-test x w h p k q t =
     root-above x w h p k q (le-of-suc-le-suc (lt-of-not-le (λ (g : num x * (den w * den w) < num w * num w * den x).
     lt-not-le x (mul binary64 w w) (nonneg-of-positive x p) (mul-unsigned binary64 w w (unsigned-of-nonneg w q) (unsigned-of-nonneg w q)) t

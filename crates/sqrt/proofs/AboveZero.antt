@@ -1,9 +1,11 @@
--- What the tests against 0 tell of a double: which are zeros, and which are below zero. Of the doubles, those that are no NaN, no zero and not below zero, and whose pattern is not the infinity's, are finite and above zero: their patterns lie between
+-- What the tests against 0 tell of a double: which are zeros, and which are below zero. Of the doubles, those that are no NaN, no zero and not below
+-- zero, and whose pattern is not the infinity's, are finite and above zero: their patterns lie between
 -- that of 0 and that of the infinity. Assumes nothing.
 use mathlib.Core.Path.{_≡_, refl, sym, ap, _∙_, subst}
 use Prim.Native.Nat.{ℕ, zero, suc, _+_, _-_, _*_, _/_, _%_, _^_, _≤_, _<_}
 use mathlib.Core.Logic.{_⊎_, inl, inr}
-use native.Mathlib.Nat.{lt-irrefl, mul-pos, mul-le-mul-right, mul-lt-mul-of-pos-right, le-trans, le-of-eq, lt-of-lt-of-le, le-div-iff-mul-le, div-lt-iff-lt-mul, zero-add, zero-lt-suc, mul-right-comm, zero-mul, one-mul}
+use native.Mathlib.Nat.{lt-irrefl, mul-pos, mul-le-mul-right, mul-lt-mul-of-pos-right, le-trans, le-of-eq, lt-of-lt-of-le}
+use native.Mathlib.Nat.{le-div-iff-mul-le, div-lt-iff-lt-mul, zero-add, zero-lt-suc, mul-right-comm, zero-mul, one-mul}
 use native.Mathlib.Omega.{arith}
 use mathlib.Core.Bool.{Bool, true, false, _&&_, _||_, Bool·beq, true≢false, false≢true}
 use lib.IntN.{ℤ, pos}
@@ -51,7 +53,8 @@ unfolding lt
 negative-only nan h = absurd (false≢true h)
 negative-only (inf true) h = inl refl
 negative-only (inf false) h = absurd (false≢true h)
-negative-only (fin true zero e) h = absurd (lt-irrefl 0 (ltb→lt 0 0 (subst (λ (n : ℕ). T (ltb 0 n)) (λ i. zero-mul (up e) i * 1 + zero-mul (down e) i) (subst T (sym h) tt))))
+negative-only (fin true zero e) h =
+    absurd (lt-irrefl 0 (ltb→lt 0 0 (subst (λ (n : ℕ). T (ltb 0 n)) (λ i. zero-mul (up e) i * 1 + zero-mul (down e) i) (subst T (sym h) tt))))
 negative-only (fin true (suc m) e) h = inr (m, e, refl)
 negative-only (fin false m e) h = absurd (none (m * up e * 1) (0 * down e) (zero-mul (down e)) (ltb→lt (m * up e * 1) (0 * down e) (subst T (sym h) tt)))
   where
@@ -61,7 +64,8 @@ negative-only (fin false m e) h = absurd (none (m * up e * 1) (0 * down e) (zero
 zero-equals : (s : Bool) (e : ℤ) → eq (fin s zero e) naught ≡ true
 unfolding eq
 zero-equals s e =
-    (λ i. eqb (ap (λ (n : ℕ). n * 1) (zero-mul (up e)) i) (zero-mul (down e) i) && (Bool·beq s false || eqb (ap (λ (n : ℕ). n * 1) (zero-mul (up e)) i) 0)) ∙ go s
+    (λ i. eqb (ap (λ (n : ℕ). n * 1) (zero-mul (up e)) i) (zero-mul (down e) i)
+    && (Bool·beq s false || eqb (ap (λ (n : ℕ). n * 1) (zero-mul (up e)) i) 0)) ∙ go s
   where
     go : (s : Bool) → Bool·beq s false || true ≡ true
     go true = refl
@@ -114,12 +118,14 @@ abbrev pub Between : ℕ → Type 0
 Between b = (0 < b) × (b < 0x7ff0_0000_0000_0000)
 
 count-pos : (a d : ℕ) → 0 < a → 0 < d → d ≤ 2 ^ 1074 → 0 < a * 2 ^ 1074 / d
-count-pos a d A D h = le-div-iff-mul-le D .1 (le-trans (le-of-eq (one-mul d)) (le-trans h (le-trans (le-of-eq (sym (one-mul (2 ^ 1074)))) (mul-le-mul-right (2 ^ 1074) A))))
+count-pos a d A D h =
+    le-div-iff-mul-le D .1 (le-trans (le-of-eq (one-mul d)) (le-trans h (le-trans (le-of-eq (sym (one-mul (2 ^ 1074)))) (mul-le-mul-right (2 ^ 1074) A))))
 
 count-lt : (a d : ℕ) → 0 < d → a < 2 ^ 1024 * d → a * 2 ^ 1074 / d < 2 ^ 2098
 count-lt a d D h =
     div-lt-iff-lt-mul D .1
-    (lt-of-lt-of-le (mul-lt-mul-of-pos-right h (pow-pos 1074)) (le-of-eq (mul-right-comm (2 ^ 1024) d (2 ^ 1074) ∙ ap (λ (x : ℕ). x * d) (sym (pow-add 2 1024 1074)))))
+    (lt-of-lt-of-le (mul-lt-mul-of-pos-right h (pow-pos 1074))
+    (le-of-eq (mul-right-comm (2 ^ 1024) d (2 ^ 1074) ∙ ap (λ (x : ℕ). x * d) (sym (pow-add 2 1024 1074)))))
 
 -- the pattern of a finite double above zero
 pub finite-pattern : (m : ℕ) (e : ℤ) → T (fits binary64 (fin false (suc m) e)) → Between (toBits binary64 (fin false (suc m) e))

@@ -1,10 +1,15 @@
--- `sqrtOf` is the square root rounded correctly. The patterns below that of the infinity are those of the doubles from 0 up, in order; `value-of` says what number `unitsOf` is.
--- `correctly-rounded`: the root of a positive double is r smallest doubles, and for any other double, of a smallest doubles, the exact root √N is on r's side of the midpoint of r and a.
--- So no double is as near to the exact root as r, ties never occur, and r is the only such number. Everything is squared: √N < (r + a) / 2 is 4 * N < (r + a) * (r + a). Assumes nothing.
+-- `sqrtOf` is the square root rounded correctly. The patterns below that of the infinity are those of the doubles from 0 up, in order; `value-of`
+-- says what number `unitsOf` is.
+-- `correctly-rounded`: the root of a positive double is r smallest doubles, and for any other double, of a smallest doubles, the exact root √N is on
+-- r's side of the midpoint of r and a.
+-- So no double is as near to the exact root as r, ties never occur, and r is the only such number. Everything is squared: √N < (r + a) / 2 is 4 * N <
+-- (r + a) * (r + a). Assumes nothing.
 use mathlib.Core.Path.{_≡_, refl, sym, ap, _∙_, subst}
 use mathlib.Core.Logic.{_⊎_, inl, inr}
 use Prim.Native.Nat.{ℕ, suc, _+_, _-_, _*_, _/_, _%_, _^_, _≤_, _<_}
-use native.Mathlib.Nat.{le-antisymm, le-of-suc-le-suc, add-comm, le-trans, le-of-eq, lt-of-lt-of-le, lt-of-le-of-lt, lt-of-not-le, lt-irrefl, le-of-lt, eq-or-lt-of-le, mul-assoc, mul-one, add-mul, mul-pos, mul-le-mul, mul-le-mul-right, mul-lt-mul-of-pos-right, lt-of-mul-lt-mul-right, pow-succ'}
+use native.Mathlib.Nat.{le-antisymm, le-of-suc-le-suc, add-comm, le-trans, le-of-eq, lt-of-lt-of-le, lt-of-le-of-lt, lt-of-not-le}
+use native.Mathlib.Nat.{lt-irrefl, le-of-lt, eq-or-lt-of-le, mul-assoc, mul-one, add-mul, mul-pos, mul-le-mul, mul-le-mul-right}
+use native.Mathlib.Nat.{mul-lt-mul-of-pos-right, lt-of-mul-lt-mul-right, pow-succ'}
 use native.Mathlib.Omega.{arith}
 use mathlib.Core.Bool.{Bool, true, false, not, cond}
 use lib.Dec.{T, eqb, eqb→eq, eqb·suc-zero, ltb, ltb→lt, nltb→le}
@@ -14,7 +19,7 @@ use lib.Ieee.Exact.{HasValue, units-val}
 use Rattle.sqrt.specs.Root.{root}
 use Rattle.sqrt.proofs.Roots.{root-is, sq-suc, sq-dbl, sq-mul, sq-lt, four-pow}
 use Rattle.sqrt.specs.Sqrt.{rounded, sqrtOf}
-use Rattle.sqrt.specs.Steps.{unitsOf}
+use Rattle.sqrt.specs.inner.Steps.{unitsOf}
 use Rattle.sqrt.proofs.Powers.{one-or-two, split-pow, joined, high-side}
 use Rattle.sqrt.proofs.Shift.{shifted}
 use Rattle.sqrt.proofs.Rounded.{root-54, sig-in, rounded-is, below-top, four-kept}
@@ -75,7 +80,8 @@ module _ (q k p j : ℕ) (lo : 2 ^ 52 ≤ q) (few : p < 2 ^ 53) where
   far : q * 2 ^ k < p * 2 ^ j → k ≤ j
   far h =
       let a : 2 ^ 52 * 2 ^ k < 2 ^ 53 * 2 ^ j = lt-of-le-of-lt (mul-le-mul-right (2 ^ k) lo) (lt-of-lt-of-le h (mul-le-mul-right (2 ^ j) (le-of-lt few))) in
-      let b : 52 + k < 53 + j = pow-lt-back (52 + k) (53 + j) (lt-of-le-of-lt (le-of-eq (pow-add 2 52 k)) (lt-of-lt-of-le a (le-of-eq (sym (pow-add 2 53 j))))) in
+      let b : 52 + k < 53 + j =
+      pow-lt-back (52 + k) (53 + j) (lt-of-le-of-lt (le-of-eq (pow-add 2 52 k)) (lt-of-lt-of-le a (le-of-eq (sym (pow-add 2 53 j))))) in
       omega arith
 
   next-up : q * 2 ^ k < p * 2 ^ j → (q + 1) * 2 ^ k ≤ p * 2 ^ j
@@ -99,7 +105,8 @@ module _ (q k p j : ℕ) (lo : 2 ^ 52 ≤ q) (few : p < 2 ^ 53) where
       go true y n =
           let l = y tt in
           let s : 53 + j ≤ 52 + k = omega arith in
-          inr (lt-of-lt-of-le (mul-lt-mul-of-pos-right few (pow-pos j)) (le-trans (le-of-eq (sym (pow-add 2 53 j))) (le-trans (pow-mono s) (le-of-eq (pow-add 2 52 k)))))
+          inr (lt-of-lt-of-le (mul-lt-mul-of-pos-right few (pow-pos j))
+          (le-trans (le-of-eq (sym (pow-add 2 53 j))) (le-trans (pow-mono s) (le-of-eq (pow-add 2 52 k)))))
       go false y n =
           let e = shared (n tt) in
           let c : p * 2 ^ (j - k) < q = lt-of-mul-lt-mul-right (2 ^ k) (lt-of-le-of-lt (le-of-eq (sym e)) h) in
@@ -121,8 +128,12 @@ module _ (m k p j : ℕ) (lo : 2 ^ 52 ≤ m) (hi : m < 2 ^ 54) (few : p < 2 ^ 53
       let P : 0 < R = lt-of-lt-of-le (pow-pos 53) (r54 .0) in
       let e : 4 * (m * 4 ^ (26 + k)) ≡ m * 2 ^ 54 * (2 ^ k * 2 ^ k) = four-kept m lo hi k ∙ ap (λ (x : ℕ). m * 2 ^ 54 * x) (four-pow k) in
       let Q : 1 ≤ q = le-trans (pow-mono {i = 0} {j = 52} (omega arith)) (s .0) in (
-        λ h. lt-of-le-of-lt (le-of-eq e) (over (2 * q + 1) (2 ^ k) (m * 2 ^ 54) (q * 2 ^ k + p * 2 ^ j) (pow-pos k) (half-up m R (i .0) (i .1)) (sum-up q (2 ^ k) (p * 2 ^ j) (next-up q k p j (s .0) few h))),
-        λ h. lt-of-lt-of-le (below q (2 ^ k) (p * 2 ^ j) (m * 2 ^ 54) Q (pow-pos k) (s .0) (half-down m R (i .0) (i .1) P) (le-trans (mul-le-mul (r54 .0) (r54 .0)) (i .0)) (next-down q k p j (s .0) few h)) (le-of-eq (sym e)),
+        λ h. lt-of-le-of-lt (le-of-eq e)
+            (over (2 * q + 1) (2 ^ k) (m * 2 ^ 54) (q * 2 ^ k + p * 2 ^ j) (pow-pos k) (half-up m R (i .0) (i .1))
+            (sum-up q (2 ^ k) (p * 2 ^ j) (next-up q k p j (s .0) few h))),
+        λ h. lt-of-lt-of-le
+            (below q (2 ^ k) (p * 2 ^ j) (m * 2 ^ 54) Q (pow-pos k) (s .0) (half-down m R (i .0) (i .1) P)
+            (le-trans (mul-le-mul (r54 .0) (r54 .0)) (i .0)) (next-down q k p j (s .0) few h)) (le-of-eq (sym e)),
       )
     where
       twice : (q t : ℕ) → (2 * q + 1) * t ≡ q * t + (q + 1) * t
@@ -141,7 +152,8 @@ module _ (m k p j : ℕ) (lo : 2 ^ 52 ≤ m) (hi : m < 2 ^ 54) (few : p < 2 ^ 53
           omega arith
 
       -- the gap below a power of two is half as wide: there the root itself is at least the power
-      below : (q t a v : ℕ) → 1 ≤ q → 0 < t → 2 ^ 52 ≤ q → (2 * q - 1) * (2 * q - 1) < v → 2 ^ 53 * 2 ^ 53 ≤ v → (a ≤ (q - 1) * t) ⊎ (a < 2 ^ 52 * t) → (q * t + a) * (q * t + a) < v * (t * t)
+      below : (q t a v : ℕ) → 1 ≤ q → 0 < t → 2 ^ 52 ≤ q → (2 * q - 1) * (2 * q - 1) < v → 2 ^ 53 * 2 ^ 53 ≤ v →
+          (a ≤ (q - 1) * t) ⊎ (a < 2 ^ 52 * t) → (q * t + a) * (q * t + a) < v * (t * t)
       below q t a v Q P l d b (inl h) = under (2 * q - 1) t v (q * t + a) P d (down-sum q t a Q h)
       below q t a v Q P l d b (inr h) = go (ltb (2 ^ 52) q) (ltb→lt (2 ^ 52) q) (nltb→le (2 ^ 52) q)
         where
@@ -210,7 +222,8 @@ even-of q e a b c d =
 even-pattern : (b : ℕ) → 0 < b → b < 0x7ff0_0000_0000_0000 → Even (unitsOf b * 2 ^ 1074)
 even-pattern b P l = go (eqb (b / 2 ^ 52) 0) (eqb→eq (b / 2 ^ 52) 0) (λ t z. subst (λ (x : ℕ). T (not (eqb x 0))) z t)
   where
-    go : (s : Bool) → (T s → b / 2 ^ 52 ≡ 0) → (T (not s) → b / 2 ^ 52 ≡ 0 → ⊥) → Even (cond s (b % 2 ^ 52) ((b % 2 ^ 52 + 2 ^ 52) * 2 ^ (b / 2 ^ 52 - 1)) * 2 ^ 1074)
+    go : (s : Bool) → (T s → b / 2 ^ 52 ≡ 0) → (T (not s) → b / 2 ^ 52 ≡ 0 → ⊥) →
+        Even (cond s (b % 2 ^ 52) ((b % 2 ^ 52 + 2 ^ 52) * 2 ^ (b / 2 ^ 52 - 1)) * 2 ^ 1074)
     go true y n =
         let z = y tt in
         let t = b % 2 ^ 52 in
@@ -226,7 +239,8 @@ even-pattern b P l = go (eqb (b / 2 ^ 52) 0) (eqb→eq (b / 2 ^ 52) 0) (λ t z. 
 
 -- the root of a double above zero is r smallest doubles, and r is nearer to the exact root than any other double
 pub correctly-rounded : (b : ℕ) → 0 < b → b < 0x7ff0_0000_0000_0000
-    → (r : ℕ) × HasValue (sqrtOf binary64 (ofBits binary64 b)) false r (2 ^ 1074) × ((c : ℕ) → Nearer (unitsOf b * 2 ^ 1074) r (unitsOf c)) × ((c : ℕ) × (c < 0x7ff0_0000_0000_0000) × (unitsOf c ≡ r))
+    → (r : ℕ) × HasValue (sqrtOf binary64 (ofBits binary64 b)) false r (2 ^ 1074) × ((c : ℕ) → Nearer (unitsOf b * 2 ^ 1074) r (unitsOf c)) ×
+    ((c : ℕ) × (c < 0x7ff0_0000_0000_0000) × (unitsOf c ≡ r))
 correctly-rounded b P l =
     let e = even-pattern b P l in
     let m = e .0 in
@@ -234,30 +248,40 @@ correctly-rounded b P l =
     let q = (root (m * 2 ^ 54) + 1) / 2 in
     let s = sig-in m (e .3) (e .4) in (
       q * 2 ^ k,
-      subst (λ (x : Float). HasValue x false (q * 2 ^ k) (2 ^ 1074)) (sym (root-of-pattern b P l ∙ ap (rounded binary64) (e .2) ∙ rounded-is m (e .3) (e .4) k)) (units-val binary64 false q k (below-top q k (s .1) (e .5))),
+      subst (λ (x : Float). HasValue x false (q * 2 ^ k) (2 ^ 1074))
+          (sym (root-of-pattern b P l ∙ ap (rounded binary64) (e .2) ∙ rounded-is m (e .3) (e .4) k))
+          (units-val binary64 false q k (below-top q k (s .1) (e .5))),
       (λ c.
           let f = few-digits c in
-          subst (λ (n : ℕ). Nearer n (q * 2 ^ k) (unitsOf c)) (sym (e .2)) (subst (λ (a : ℕ). Nearer (m * 4 ^ (26 + k)) (q * 2 ^ k) a) (sym (f .2)) (nearer m k (f .0) (f .1) (e .3) (e .4) (f .3)))),
+          subst (λ (n : ℕ). Nearer n (q * 2 ^ k) (unitsOf c)) (sym (e .2))
+          (subst (λ (a : ℕ). Nearer (m * 4 ^ (26 + k)) (q * 2 ^ k) a) (sym (f .2)) (nearer m k (f .0) (f .1) (e .3) (e .4) (f .3)))),
       double-of q k (s .0) (s .1) (e .5),
     )
 
 -- ties never occur: the exact root is no midpoint of r and another double
 pub no-tie : (n r a : ℕ) → Nearer n r a → (r + a) * (r + a) ≡ 4 * n → r ≡ a
-no-tie n r a h e = le-antisymm (le-of-suc-le-suc (lt-of-not-le (λ (g : a < r). lt-irrefl (4 * n) (lt-of-le-of-lt (le-of-eq (sym e)) (h .1 g))))) (le-of-suc-le-suc (lt-of-not-le (λ (g : r < a). lt-irrefl (4 * n) (lt-of-lt-of-le (h .0 g) (le-of-eq e)))))
+no-tie n r a h e =
+    le-antisymm (le-of-suc-le-suc (lt-of-not-le (λ (g : a < r). lt-irrefl (4 * n) (lt-of-le-of-lt (le-of-eq (sym e)) (h .1 g)))))
+    (le-of-suc-le-suc (lt-of-not-le (λ (g : r < a). lt-irrefl (4 * n) (lt-of-lt-of-le (h .0 g) (le-of-eq e)))))
 
 -- of two numbers only one can be nearer than the other
 nearer-only : (n r s : ℕ) → Nearer n r s → Nearer n s r → r ≡ s
 nearer-only n r s a b = le-antisymm (not-above r s a b) (not-above s r b a)
   where
     not-above : (r s : ℕ) → Nearer n r s → Nearer n s r → r ≤ s
-    not-above r s a b = le-of-suc-le-suc (lt-of-not-le (λ (h : s < r). lt-irrefl (4 * n) (lt-of-lt-of-le (b .0 h) (le-trans (le-of-eq (ap (λ (x : ℕ). x * x) (add-comm s r))) (le-of-lt (a .1 h))))))
+    not-above r s a b =
+        le-of-suc-le-suc
+        (lt-of-not-le
+        (λ (h : s < r). lt-irrefl (4 * n) (lt-of-lt-of-le (b .0 h) (le-trans (le-of-eq (ap (λ (x : ℕ). x * x) (add-comm s r))) (le-of-lt (a .1 h))))))
 
 -- the result is unique: a double that is nearer to the exact root than any other is the root
-pub unique : (b : ℕ) → 0 < b → b < 0x7ff0_0000_0000_0000 → (a : ℕ) → ((c : ℕ) → c < 0x7ff0_0000_0000_0000 → Nearer (unitsOf b * 2 ^ 1074) (unitsOf a) (unitsOf c))
+pub unique : (b : ℕ) → 0 < b → b < 0x7ff0_0000_0000_0000 → (a : ℕ) →
+    ((c : ℕ) → c < 0x7ff0_0000_0000_0000 → Nearer (unitsOf b * 2 ^ 1074) (unitsOf a) (unitsOf c))
     → HasValue (sqrtOf binary64 (ofBits binary64 b)) false (unitsOf a) (2 ^ 1074)
 unique b P l a h =
     let w = correctly-rounded b P l in
     let own = w .3 in
     subst (λ (x : ℕ). HasValue (sqrtOf binary64 (ofBits binary64 b)) false x (2 ^ 1074))
-    (nearer-only (unitsOf b * 2 ^ 1074) (w .0) (unitsOf a) (w .2 a) (subst (λ (x : ℕ). Nearer (unitsOf b * 2 ^ 1074) (unitsOf a) x) (own .2) (h (own .0) (own .1))))
+    (nearer-only (unitsOf b * 2 ^ 1074) (w .0) (unitsOf a) (w .2 a)
+    (subst (λ (x : ℕ). Nearer (unitsOf b * 2 ^ 1074) (unitsOf a) x) (own .2) (h (own .0) (own .1))))
     (w .1)

@@ -1,4 +1,5 @@
--- The whole number nearest to √M is the q for which M + q - q² is from 1 to 2 q: then √M is between q - 1/2 and q + 1/2, and the root of 4 M is 2 q - 1 or 2 q. Assumes nothing.
+-- The whole number nearest to √M is the q for which M + q - q² is from 1 to 2 q: then √M is between q - 1/2 and q + 1/2, and the root of 4 M is 2 q -
+-- 1 or 2 q. Assumes nothing.
 use mathlib.Core.Path.{_≡_, sym, ap, _∙_}
 use Prim.Native.Nat.{ℕ, _+_, _-_, _*_, _/_, _%_, _^_, _≤_, _<_}
 use native.Mathlib.Nat.{lt-of-le-of-lt, mul-le-mul}
@@ -15,7 +16,9 @@ over-next : (m q over : ℕ) → Over m q over → 2 * q < over → Over m (q + 
 over-next m q over e h = omega (arith, sq-suc q)
 
 pub over-nearest : (m q over : ℕ) → Over m q over → 0 < over → over ≤ 2 * q → q ≡ (root (m * 2 ^ 54) + 1) / 2
-over-nearest m q over e s l = between (root n) (sq-lt-back (2 * p + 1) (root n + 1) (lt-of-le-of-lt below (root-is n .1))) (sq-lt-back (root n) (2 * q + 1) (lt-of-le-of-lt (root-is n .0) above))
+over-nearest m q over e s l =
+    between (root n) (sq-lt-back (2 * p + 1) (root n + 1) (lt-of-le-of-lt below (root-is n .1)))
+    (sq-lt-back (root n) (2 * q + 1) (lt-of-le-of-lt (root-is n .0) above))
   where
     n : ℕ
     n = m * 2 ^ 54

@@ -2,7 +2,8 @@
 use mathlib.Core.Path.{_≡_, refl, sym, ap, _∙_, subst}
 use mathlib.Core.Logic.{_⊎_, inl, inr}
 use Prim.Native.Nat.{ℕ, zero, suc, _+_, _-_, _*_, _/_, _%_, _^_, _≤_, _<_}
-use native.Mathlib.Nat.{le-trans, le-of-eq, lt-of-le-of-lt, eq-or-lt-of-le, mul-le-mul-right, mul-div-cancel, mul-pos, mul-one, suc-mul, lt-suc-self, zero-add, add-comm, mod-eq-of-lt, not-le-of-lt}
+use native.Mathlib.Nat.{le-trans, le-of-eq, lt-of-le-of-lt, eq-or-lt-of-le, mul-le-mul-right, mul-div-cancel, mul-pos, mul-one, suc-mul}
+use native.Mathlib.Nat.{lt-suc-self, zero-add, add-comm, mod-eq-of-lt, not-le-of-lt}
 use native.Mathlib.Omega.{arith}
 use mathlib.Core.Bool.{Bool, true, false, not, cond, true≢false}
 use lib.Dec.{T, leb, eqb, leb→le, eqb→eq, not-T}
@@ -13,7 +14,7 @@ use lib.Ieee.Compare.{nan-differs}
 use lib.Ieee.Fits.{down-pos}
 use lib.Ieee.Exact.{HasValue, odd-sign}
 use borrow.Author.Tests.{eq-eqb, ne-eqb}
-use Rattle.sqrt.specs.Steps.{unitsOf}
+use Rattle.sqrt.specs.inner.Steps.{unitsOf}
 use Rattle.sqrt.proofs.Shift.{size-exact}
 
 -- ---- what the fields of a pattern are read as
@@ -28,23 +29,29 @@ at-zero s t = refl
 
 under-ones : (s : Bool) (t x : ℕ) → (suc x ≡ 2047 → ⊥) → ofFields binary64 s (suc x) t ≡ odd 53 s (2 ^ 52 + t) x 1074
 unfolding ofFields
-under-ones s t x h = cond-no (eqb (suc x) 2047) (cond (eqb t 0) (inf s) nan) (odd 53 s (2 ^ 52 + t) x 1074) (not-T (eqb (suc x) 2047) (λ (u : T (eqb (suc x) 2047)). h (eqb→eq (suc x) 2047 u)))
+under-ones s t x h =
+    cond-no (eqb (suc x) 2047) (cond (eqb t 0) (inf s) nan) (odd 53 s (2 ^ 52 + t) x 1074)
+    (not-T (eqb (suc x) 2047) (λ (u : T (eqb (suc x) 2047)). h (eqb→eq (suc x) 2047 u)))
 
 -- a pattern with the sign clear
 unsigned : (b : ℕ) → b < 2 ^ 63 → ofBits binary64 b ≡ ofFields binary64 false (b / 2 ^ 52) (b % 2 ^ 52)
 unsigned b h =
     ofBits-is b
-    ∙ ap (λ (s : Bool). ofFields binary64 s (b % 2 ^ 63 / 2 ^ 52) (b % 2 ^ 52)) (is-false (leb (2 ^ 63) b) (not-T (leb (2 ^ 63) b) (λ (u : T (leb (2 ^ 63) b)). not-le-of-lt h (leb→le (2 ^ 63) b u))))
+    ∙ ap (λ (s : Bool). ofFields binary64 s (b % 2 ^ 63 / 2 ^ 52) (b % 2 ^ 52))
+    (is-false (leb (2 ^ 63) b) (not-T (leb (2 ^ 63) b) (λ (u : T (leb (2 ^ 63) b)). not-le-of-lt h (leb→le (2 ^ 63) b u))))
     ∙ ap (λ (x : ℕ). ofFields binary64 false (x / 2 ^ 52) (b % 2 ^ 52)) (mod-eq-of-lt h)
 
 fields-value : (x t : ℕ) → x < 2047 → HasValue (ofFields binary64 false x t) false (cond (eqb x 0) t ((t + 2 ^ 52) * 2 ^ (x - 1))) (2 ^ 1074)
-fields-value zero t h = subst (λ (v : Float). HasValue v false t (2 ^ 1074)) (sym (at-zero false t)) (subst (λ (n : ℕ). HasValue (odd 53 false t 0 1074) false n (2 ^ 1074)) (mul-one t) (odd-sign 53 false t 0 1074))
+fields-value zero t h =
+    subst (λ (v : Float). HasValue v false t (2 ^ 1074)) (sym (at-zero false t))
+    (subst (λ (n : ℕ). HasValue (odd 53 false t 0 1074) false n (2 ^ 1074)) (mul-one t) (odd-sign 53 false t 0 1074))
 fields-value (suc x) t h =
     let d : suc x ≡ 2047 → ⊥ = λ e. omega arith in
     let p : suc x - 1 ≡ x = omega arith in
     let q : suc x ≡ 0 → ⊥ = λ e. omega arith in
     subst (λ (n : ℕ). HasValue (ofFields binary64 false (suc x) t) false n (2 ^ 1074))
-    (ap (λ (y : ℕ). y * 2 ^ x) (add-comm (2 ^ 52) t) ∙ ap (λ (y : ℕ). (t + 2 ^ 52) * 2 ^ y) (sym p) ∙ sym (ap (λ (b : Bool). cond b t ((t + 2 ^ 52) * 2 ^ (suc x - 1))) (ne-eqb (suc x) 0 q)))
+    (ap (λ (y : ℕ). y * 2 ^ x) (add-comm (2 ^ 52) t) ∙ ap (λ (y : ℕ). (t + 2 ^ 52) * 2 ^ y) (sym p)
+    ∙ sym (ap (λ (b : Bool). cond b t ((t + 2 ^ 52) * 2 ^ (suc x - 1))) (ne-eqb (suc x) 0 q)))
     (subst (λ (v : Float). HasValue v false ((2 ^ 52 + t) * 2 ^ x) (2 ^ 1074)) (sym (under-ones false t x d)) (odd-sign 53 false (2 ^ 52 + t) x 1074))
 
 -- `unitsOf` by cases
@@ -91,7 +98,8 @@ pub finite-no-nan : (b : ℕ) → b < 0x7ff0_0000_0000_0000 → T (not (nanBits 
 finite-no-nan b l = subst (λ (v : Bool). T (not v)) (sym (nanBits-is binary64 b)) (value-no-nan (ofBits binary64 b) false (unitsOf b) (2 ^ 1074) (value-of b l))
 
 -- with z the size, and d of its digits dropped
-bits-at : (q k z d p : ℕ) → size (q * 2 ^ k) ≡ z → z - 53 ≡ d → q * 2 ^ k ≡ p * 2 ^ d → (size (q * 2 ^ k) - 53) * 2 ^ 52 + q * 2 ^ k / 2 ^ (size (q * 2 ^ k) - 53) ≡ d * 2 ^ 52 + p
+bits-at : (q k z d p : ℕ) → size (q * 2 ^ k) ≡ z → z - 53 ≡ d → q * 2 ^ k ≡ p * 2 ^ d →
+    (size (q * 2 ^ k) - 53) * 2 ^ 52 + q * 2 ^ k / 2 ^ (size (q * 2 ^ k) - 53) ≡ d * 2 ^ 52 + p
 bits-at q k z d p a b e =
     ap (λ (x : ℕ). x * 2 ^ 52 + q * 2 ^ k / 2 ^ x) (ap (λ (x : ℕ). x - 53) a ∙ b)
     ∙ ap (λ (x : ℕ). d * 2 ^ 52 + x) (ap (λ (x : ℕ). x / 2 ^ d) e ∙ mul-div-cancel p (pow-pos d))
@@ -117,7 +125,8 @@ bits-of q k lo hi = go (eq-or-lt-of-le hi)
     go : (q ≡ 2 ^ 53) ⊎ (q < 2 ^ 53) → (size (q * 2 ^ k) - 53) * 2 ^ 52 + q * 2 ^ k / 2 ^ (size (q * 2 ^ k) - 53) ≡ k * 2 ^ 52 + q
     go (inr l) =
         bits-at q k (suc (52 + k)) k q
-        (size-exact (52 + k) (q * 2 ^ k) (le-trans (le-of-eq (pow-add 2 52 k)) (mul-le-mul-right (2 ^ k) lo)) (subst (λ (x : ℕ). q * 2 ^ k < 2 ^ x) (sym (up-one k)) (shl-lt 53 k l)))
+        (size-exact (52 + k) (q * 2 ^ k) (le-trans (le-of-eq (pow-add 2 52 k)) (mul-le-mul-right (2 ^ k) lo))
+        (subst (λ (x : ℕ). q * 2 ^ k < 2 ^ x) (sym (up-one k)) (shl-lt 53 k l)))
         (less k)
         refl
     go (inl e) =

@@ -13,7 +13,8 @@ joined q i j n e = mul-assoc q (2 ^ i) (2 ^ j) ∙ ap (λ (x : ℕ). q * x) (sym
 pub split-pow : (q e : ℕ) → q * (1 + e % 2) * 4 ^ (e / 2) ≡ q * 2 ^ e
 split-pow q e =
     let h = e / 2 in
-    ap (λ (x : ℕ). q * x * 4 ^ h) (power (e % 2) (omega arith)) ∙ ap (λ (x : ℕ). q * 2 ^ (e % 2) * x) (four-pow h ∙ sym (pow-add 2 h h)) ∙ joined q (e % 2) (h + h) e (omega arith)
+    ap (λ (x : ℕ). q * x * 4 ^ h) (power (e % 2) (omega arith)) ∙ ap (λ (x : ℕ). q * 2 ^ (e % 2) * x) (four-pow h ∙ sym (pow-add 2 h h))
+    ∙ joined q (e % 2) (h + h) e (omega arith)
   where
     power : (r : ℕ) → r < 2 → 1 + r ≡ 2 ^ r
     power zero l = refl

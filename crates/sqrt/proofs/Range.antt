@@ -20,4 +20,5 @@ root-nonneg (fin false (suc m) e) h p =
     let x = fin false (suc m) e in
     let w = finite-pattern m e h in
     let r = correctly-rounded (toBits binary64 x) (w .0) (w .1) in
-    subst (λ (v : Float). T (nonneg (sqrtOf binary64 v))) (ofBits-toBits binary64 x h) (nonneg-of-value (sqrtOf binary64 (ofBits binary64 (toBits binary64 x))) (r .0) (2 ^ 1074) (r .1))
+    subst (λ (v : Float). T (nonneg (sqrtOf binary64 v))) (ofBits-toBits binary64 x h)
+    (nonneg-of-value (sqrtOf binary64 (ofBits binary64 (toBits binary64 x))) (r .0) (2 ^ 1074) (r .1))

@@ -1,14 +1,17 @@
 -- `root n` is the largest number whose square is at most n, and no other number is. Assumes nothing.
 use mathlib.Core.Path.{_≡_, refl, sym, ap, _∙_, subst}
 use Prim.Native.Nat.{ℕ, zero, suc, _+_, _*_, _/_, _^_, _≤_, _<_, zero-le}
-use native.Mathlib.Nat.{mul-one, mul-assoc, mul-left-comm, add-mul, mul-add, le-antisymm, le-trans, le-of-eq, mul-le-mul-left, lt-of-le-of-lt, lt-of-lt-of-le, lt-of-not-le, lt-irrefl, le-of-lt, mul-pos, mul-lt-mul-of-pos-right, mul-le-mul, pow-succ'}
+use native.Mathlib.Nat.{mul-one, mul-assoc, mul-left-comm, add-mul, mul-add, le-antisymm, le-trans, le-of-eq, mul-le-mul-left}
+use native.Mathlib.Nat.{lt-of-le-of-lt, lt-of-lt-of-le, lt-of-not-le, lt-irrefl, le-of-lt, mul-pos, mul-lt-mul-of-pos-right, mul-le-mul}
+use native.Mathlib.Nat.{pow-succ'}
 use native.Mathlib.Omega.{arith}
 use mathlib.Core.Bool.{Bool, true, false, not, cond}
 use lib.Dec.{T, leb, leb→le, nleb→lt}
 use lib.Pow.{pow-pos}
 use lib.Ieee.{size}
 use lib.Ieee.Digits.{size-lt}
-use Rattle.sqrt.specs.Root.{rootIn, root, IsRoot}
+use Rattle.sqrt.specs.inner.Steps.{IsRoot}
+use Rattle.sqrt.specs.Root.{rootIn, root}
 
 pub sq-suc : (a : ℕ) → (a + 1) * (a + 1) ≡ a * a + 2 * a + 1
 sq-suc a =
@@ -29,7 +32,8 @@ step-low n s h = omega (arith, sq-dbl s)
 step-high : (n s : ℕ) → n / 4 < (s + 1) * (s + 1) → n < (2 * s + 1 + 1) * (2 * s + 1 + 1)
 step-high n s h = omega (arith, sq-suc s, sq-suc (2 * s + 1), sq-suc (2 * s), sq-dbl s)
 
-grow : (n s : ℕ) → IsRoot (n / 4) s → (b : Bool) → (T b → (2 * s + 1) * (2 * s + 1) ≤ n) → (T (not b) → n < (2 * s + 1) * (2 * s + 1)) → IsRoot n (cond b (2 * s + 1) (2 * s))
+grow : (n s : ℕ) → IsRoot (n / 4) s → (b : Bool) → (T b → (2 * s + 1) * (2 * s + 1) ≤ n) → (T (not b) → n < (2 * s + 1) * (2 * s + 1)) →
+    IsRoot n (cond b (2 * s + 1) (2 * s))
 grow n s h true y z = (y tt, step-high n s (h .1))
 grow n s h false y z = (step-low n s (h .0), z tt)
 
@@ -44,7 +48,8 @@ unfolding rootIn
 rootIn-is zero n h = below-one n h
 rootIn-is (suc d) n h =
     let s = rootIn d (n / 4) in
-    grow n s (rootIn-is d (n / 4) (quarter n (4 ^ d) (subst (λ (x : ℕ). n < x) (pow-succ' 4 d) h))) (leb ((2 * s + 1) * (2 * s + 1)) n) (leb→le ((2 * s + 1) * (2 * s + 1)) n) (nleb→lt ((2 * s + 1) * (2 * s + 1)) n)
+    grow n s (rootIn-is d (n / 4) (quarter n (4 ^ d) (subst (λ (x : ℕ). n < x) (pow-succ' 4 d) h))) (leb ((2 * s + 1) * (2 * s + 1)) n)
+    (leb→le ((2 * s + 1) * (2 * s + 1)) n) (nleb→lt ((2 * s + 1) * (2 * s + 1)) n)
 
 pub four-pow : (k : ℕ) → 4 ^ k ≡ 2 ^ k * 2 ^ k
 four-pow zero = refl

@@ -1,4 +1,5 @@
--- `rounded` at m * 4 ^ h with an m of 53 or 54 digits: its pattern is the exponent's field h - 26 and the root of m * 2 ^ 54, halved and rounded. Assumes nothing.
+-- `rounded` at m * 4 ^ h with an m of 53 or 54 digits: its pattern is the exponent's field h - 26 and the root of m * 2 ^ 54, halved and rounded.
+-- Assumes nothing.
 use mathlib.Core.Path.{_≡_, sym, ap, _∙_, subst}
 use Prim.Native.Nat.{ℕ, suc, _+_, _-_, _*_, _/_, _^_, _≤_, _<_}
 use native.Mathlib.Nat.{le-trans, le-of-eq, lt-of-lt-of-le, lt-of-le-of-lt, mul-assoc, mul-le-mul-right, mul-lt-mul-of-pos-right, mul-div-cancel, mul-le-mul}
@@ -11,7 +12,7 @@ use lib.Ieee.Fits.{odd-fits, cond-fits, inf-fits}
 use lib.Ieee.Exact.{HasValue, units-val}
 use Rattle.sqrt.specs.Root.{root}
 use Rattle.sqrt.specs.Sqrt.{rounded}
-use Rattle.sqrt.specs.Steps.{Rooted}
+use Rattle.sqrt.specs.inner.Steps.{Rooted}
 use Rattle.sqrt.proofs.Roots.{root-is, sq-lt-back, sq-pow, four-pos}
 use Rattle.sqrt.proofs.Shift.{size-exact}
 use Rattle.sqrt.proofs.Patterns.{toBits-value, bits-of, value-no-nan}
@@ -33,7 +34,8 @@ module _ (m : ℕ) (lo : 2 ^ 52 ≤ m) (hi : m < 2 ^ 54) where
       let P : 0 < 4 ^ h = four-pos h in
       let a : 2 ^ 26 * 2 ^ h ≤ root n = root-ge n (2 ^ 26 * 2 ^ h) (le-trans (le-of-eq (sq-pow (2 ^ 26) h)) (mul-le-mul-right (4 ^ h) lo)) in
       let b : root n < 2 ^ 27 * 2 ^ h = root-lt n (2 ^ 27 * 2 ^ h) (lt-of-lt-of-le (mul-lt-mul-of-pos-right hi P) (le-of-eq (sym (sq-pow (2 ^ 27) h)))) in
-      size-exact (26 + h) (root n) (le-trans (le-of-eq (pow-add 2 26 h)) a) (lt-of-lt-of-le b (le-of-eq (sym (pow-add 2 27 h) ∙ ap (λ (x : ℕ). 2 ^ x) (one-up h)))) ∙ sym (one-up h)
+      size-exact (26 + h) (root n) (le-trans (le-of-eq (pow-add 2 26 h)) a)
+      (lt-of-lt-of-le b (le-of-eq (sym (pow-add 2 27 h) ∙ ap (λ (x : ℕ). 2 ^ x) (one-up h)))) ∙ sym (one-up h)
     where
       one-up : (h : ℕ) → 27 + h ≡ suc (26 + h)
       one-up h = omega arith
@@ -43,7 +45,9 @@ module _ (m : ℕ) (lo : 2 ^ 52 ≤ m) (hi : m < 2 ^ 54) where
   root-54 = (root-ge (m * 2 ^ 54) (2 ^ 53) (omega arith), root-lt (m * 2 ^ 54) (2 ^ 54) (omega arith))
 
   pub four-kept : (k : ℕ) → 4 * (m * 4 ^ (26 + k)) ≡ m * 2 ^ 54 * 4 ^ k
-  four-kept k = ap (λ (x : ℕ). 4 * (m * x)) (pow-add 4 26 k) ∙ ap (λ (x : ℕ). 4 * x) (sym (mul-assoc m (4 ^ 26) (4 ^ k))) ∙ sym (mul-assoc 4 (m * 4 ^ 26) (4 ^ k)) ∙ ap (λ (x : ℕ). x * 4 ^ k) (four-m m)
+  four-kept k =
+      ap (λ (x : ℕ). 4 * (m * x)) (pow-add 4 26 k) ∙ ap (λ (x : ℕ). 4 * x) (sym (mul-assoc m (4 ^ 26) (4 ^ k)))
+      ∙ sym (mul-assoc 4 (m * 4 ^ 26) (4 ^ k)) ∙ ap (λ (x : ℕ). x * 4 ^ k) (four-m m)
     where
       four-m : (m : ℕ) → 4 * (m * 4 ^ 26) ≡ m * 2 ^ 54
       four-m m = omega arith
@@ -70,7 +74,9 @@ module _ (m : ℕ) (lo : 2 ^ 52 ≤ m) (hi : m < 2 ^ 54) where
 
 units-fits : (q k : ℕ) → q ≤ 2 ^ 53 → q * 2 ^ k < 2 ^ 2098 → T (fits binary64 (units binary64 false q k))
 unfolding units
-units-fits q k h l = cond-fits binary64 (ltb (q * 2 ^ k) (2 ^ 2098)) (odd 54 false q k 1074) (inf false) (odd-fits binary64 54 false q k (lt-of-le-of-lt h (lit< tt)) h l) (inf-fits binary64 false)
+units-fits q k h l =
+    cond-fits binary64 (ltb (q * 2 ^ k) (2 ^ 2098)) (odd 54 false q k 1074) (inf false)
+    (odd-fits binary64 54 false q k (lt-of-le-of-lt h (lit< tt)) h l) (inf-fits binary64 false)
 
 pub below-top : (q k : ℕ) → q ≤ 2 ^ 53 → k ≤ 2000 → q * 2 ^ k < 2 ^ 2098
 below-top q k h l = lt-of-le-of-lt (mul-le-mul h (pow-mono l)) (subst (λ (x : ℕ). x < 2 ^ 2098) (pow-add 2 53 2000) (pow-lt {i = 2053} {j = 2098} (lit< tt)))

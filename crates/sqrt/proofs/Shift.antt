@@ -10,7 +10,8 @@ use lib.Ieee.Digits.{size-lt, size-le, size-reaches}
 
 -- a number from 2 ^ a up, and below the next power, has a + 1 digits
 pub size-exact : (a n : ℕ) → 2 ^ a ≤ n → n < 2 ^ suc a → size n ≡ suc a
-size-exact a n lo hi = le-antisymm (size-le n (suc a) hi) (lt-of-not-le (λ (g : size n ≤ a). lt-irrefl n (lt-of-lt-of-le (size-lt n) (le-trans (pow-mono g) lo))))
+size-exact a n lo hi =
+    le-antisymm (size-le n (suc a) hi) (lt-of-not-le (λ (g : size n ≤ a). lt-irrefl n (lt-of-lt-of-le (size-lt n) (le-trans (pow-mono g) lo))))
 
 size-length : (n m : ℕ) → n < 2 ^ m → 2 ^ m ≤ 2 * n + 1 → size n ≡ m
 size-length n m lo hi = le-antisymm (size-le n m lo) (le-of-suc-le-suc (lt-of-not-le (λ (g : size n < m). short n m g hi)))

@@ -11,7 +11,7 @@ use lib.Ieee.Bits.{ofBits-toBits, nanBits-is}
 use lib.Ieee.Fits.{down-pos}
 use lib.Ieee.Exact.{HasValue}
 use Rattle.sqrt.specs.Sqrt.{rounded, sqrtOf}
-use Rattle.sqrt.specs.Steps.{Rooted, unitsOf}
+use Rattle.sqrt.specs.inner.Steps.{Rooted, unitsOf}
 use Rattle.sqrt.proofs.AboveZero.{naught, zero-only, negative-only, some-units}
 use Rattle.sqrt.proofs.Patterns.{value-of, units-pos}
 

@@ -1,5 +1,6 @@
--- The whole part of a square root: `root n` is the largest r with r * r ≤ n. `Roots` of the proofs shows that it is, and that no other number is. Definitions only.
-use Prim.Native.Nat.{ℕ, zero, suc, _+_, _*_, _/_, _<_, _≤_}
+-- The whole part of a square root: `root n` is the largest r with r * r ≤ n. `Roots` of the proofs shows that it is, and that no other
+-- number is. Definitions only.
+use Prim.Native.Nat.{ℕ, zero, suc, _+_, _*_, _/_}
 use mathlib.Core.Bool.{cond}
 use lib.Dec.{leb}
 use lib.Ieee.{size}
@@ -14,7 +15,3 @@ rootIn (suc d) n = let r = 2 * rootIn d (n / 4) in cond (leb ((r + 1) * (r + 1))
 unfoldable pub root : ℕ → ℕ
 unfolding rootIn
 root n = rootIn (size n) n
-
--- r is the whole part of √n
-abbrev pub IsRoot : ℕ → ℕ → Type 0
-IsRoot n r = (r * r ≤ n) × (n < (r + 1) * (r + 1))

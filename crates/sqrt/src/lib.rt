@@ -7,7 +7,7 @@ ghost use Prim.Native.Nat.{_+_, _-_, _*_, _^_, _≤_, _<_};
 ghost use lib.Ieee.{binary64, size};
 ghost use Rattle.sqrt.specs.Root.{root};
 ghost use Rattle.sqrt.specs.Sqrt.{sqrtOf};
-ghost use Rattle.sqrt.specs.Steps.{Rooted, unitsOf};
+ghost use Rattle.sqrt.specs.inner.Steps.{Rooted, unitsOf};
 
 pub mod guess;
 pub mod nearest;

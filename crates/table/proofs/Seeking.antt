@@ -1,125 +1,113 @@
--- A walk for a key: the key's entry, where there is one, is not passed. Assumes nothing.
-use Prim.Native.Nat.{ℕ, zero, suc, _+_, _-_, _/_, _%_, _≤_, _<_}
-use mathlib.Core.Path.{_≡_, refl, sym, ap, subst, _∙_}
-use mathlib.Core.Bool.{true}
-use mathlib.Core.Logic.{_⊎_}
+-- A walk for a key does not pass the key's entry, and so ends at it, or where the number of a missing one belongs. Assumes nothing.
+use Prim.Native.Nat.{ℕ, zero, suc, _+_, _-_, _/_, _%_, _^_, _≤_, _<_}
+use mathlib.Core.Path.{_≡_, refl, sym, ap, _∙_}
 use mathlib.Core.List.{List}
 use native.Mathlib.Omega.{arith}
-use native.Mathlib.Numerals.{add-one}
-use native.Mathlib.Decide.{ℕ-discrete, decLt}
-use Rattle.table.specs.Table.{size, room, trees, keyLimit, linkAt, half, alike, stop, Table, get, key, number, entryOf, slotAt, longest}
-use Rattle.table.specs.Seek.{Sought}
-use Rattle.table.proofs.First.{first-some}
-use Rattle.table.proofs.Tree.{alike-self, alike-shorter, alike-eight, stop-zero, stop-next, stop-within, stop-is, walk-is-short}
-use Rattle.table.proofs.Slot.{Link, slot-holds, slot-at, slot-within, slot-found}
+use native.Mathlib.Decide.{ℕ-discrete}
+use lib.Pow.{pow-pos}
+use Rattle.table.specs.inner.Table.{size, room, trees, keyLimit, linkAt, get, key, entryOf, rest, slotAt, stop, Table, deepest, endFrom, slotOf, Sought}
 use Rattle.table.proofs.Found.{found-within, found-key}
+use Rattle.table.proofs.Walk.{stop-past, stop-within, walk-is-short, end-here, end-on}
 
--- the walk has met d entries and stands at e, whose number it read at `at`
-pub record Seeking (m : List ℕ) (k at digits d e : ℕ) : Type 0 where
-  pub few : d ≤ longest
-  pub digits-are : digits ≡ half d (k / trees)
+-- the walk has met d entries, none of which has the key, and reads at `at`; it may meet `left` more before one has the key
+pub record Seeking (m : List ℕ) (k at digits : ℕ) : Type 0 where
+  pub table : Table m
+  pub small : k < keyLimit
+  pub d : ℕ
+  pub left : ℕ
+  pub few : d + left ≡ deepest
+  pub digits-are : digits ≡ rest d k
+  pub top : 2 ^ left ≤ digits
   pub at-is : at ≡ slotAt m k d
-  pub is : e ≡ stop m k d
-  pub behind : (j : ℕ) → d ≡ suc j → stop m k j ≡ 0 → ⊥
-  pub ahead : (f : ℕ) → entryOf m k ≡ suc f → (1 ≤ e) × (e ≤ suc f)
+  pub within : at < size
+  pub end : slotOf m k ≡ slotAt m k (endFrom m k left d)
+  pub ahead : (f : ℕ) → entryOf m k ≡ suc f → d ≤ table .depth f
 
-alike-found : (m : List ℕ) (k d f : ℕ) → entryOf m k ≡ suc f → alike d (key m (suc f)) k ≡ true
-alike-found m k d f q = rw (found-key m k f q) (alike-self d k)
+pub seeking-start : {m : List ℕ} → Table m → (k : ℕ) → k < keyLimit → Seeking m k (k % trees) (k / trees + 256)
+unfolding rest slotAt
+seeking-start t k small = record {
+  table = t;
+  small = small;
+  d = 0;
+  left = deepest;
+  few = refl;
+  digits-are = refl;
+  top = omega arith;
+  at-is = refl;
+  within = omega arith;
+  end = refl;
+  ahead = λ f q. omega arith;
+}
 
-module _ {m : List ℕ} (t : Table m) (k : ℕ) (small : k < keyLimit) where
-  pub seeking-start : (e : ℕ) → e ≡ get m (k % trees) → Seeking m k (k % trees) (k / trees) 0 e
-  unfolding half slotAt
-  seeking-start e r =
-      let is : e ≡ stop m k 0 = r ∙ slot-holds t k 0 (λ j q. absurd (omega arith)) in
-      record {
-        few = omega arith;
-        digits-are = refl;
-        at-is = refl;
-        is = is;
-        behind = λ j q. absurd (omega arith);
-        ahead = λ f q. subst (λ (n : ℕ). (1 ≤ n) × (n ≤ suc f)) (sym (is ∙ stop-zero m k))
-            (first-some (λ e. alike 0 (key m e) k) 0 (number m) f (omega arith) (omega (arith, found-within m k)) (alike-found m k 0 f q));
-      }
+found-there : {m : List ℕ} (t : Table m) (k f : ℕ) → entryOf m k ≡ suc f → stop m k (t .depth f) ≡ suc f
+found-there {m} t k f q = rw (found-key m k f q) at (t .reached f (omega (arith, found-within m k)))
 
-  module _ {at digits d e : ℕ} (w : Seeking m k at digits d e) where
-    holds : get m at ≡ e
-    holds = ap (get m) (w .at-is) ∙ slot-holds t k d (w .behind) ∙ sym (w .is)
+-- as the code has them: e is read at `at`, and then j is its key
+module _ {m : List ℕ} {k at digits : ℕ} (w : Seeking m k at digits) where
+  pub seek-less : digits / 2 < digits
+  seek-less = omega (arith, w .top, pow-pos (w .left))
 
-    pub at-within : at < size
-    at-within = slot-within t at (subst (λ (a : ℕ). (a < trees) ⊎ Link (number m) a) (sym (w .at-is)) (slot-at m k d (w .behind)))
+  module _ (e : ℕ) (r : e ≡ get m at) where
+    here : stop m k (w .d) ≡ e
+    here = ap (get m) (sym (w .at-is)) ∙ sym r
 
     pub entry-few : e ≤ room
-    entry-few = omega (arith, w .is, stop-within m k d, t .few)
-
-    -- as the code has them: j is the key that was read
-    pub seek-found : (j : ℕ) → (e ≡ 0 → ⊥) → j ≡ key m e → j ≡ k → Sought m k at
-    seek-found j f r q =
-        let s : e ≡ suc (e - 1) = omega arith in
-        let found : entryOf m k ≡ e =
-        ap (entryOf m) (sym q ∙ r ∙ ap (key m) s) ∙ t .distinct (e - 1) (omega (arith, w .is, stop-within m k d)) ∙ sym s in
-        record { here = holds ∙ sym found; within = at-within; slot = λ z. absurd (f (sym found ∙ z)) }
+    entry-few = omega (arith, here, stop-within (w .table) k (w .d), w .table .few)
 
     pub seek-ended : e ≡ 0 → Sought m k at
     seek-ended z = record {
-      here = holds ∙ z ∙ sym none;
-      within = at-within;
-      slot = λ y. w .at-is ∙ slot-found m k d (w .few) (sym (w .is) ∙ z) (w .behind);
+      here = sym r ∙ z ∙ sym (missing (entryOf m k) refl);
+      within = w .within;
+      slot = λ y. w .at-is ∙ sym (w .end ∙ ap (slotAt m k) (end-here m k (w .left) (w .d) (here ∙ z)));
     }
       where
         missing : (n : ℕ) → entryOf m k ≡ n → n ≡ 0
         missing zero q = refl
-        missing (suc f) q = absurd (omega (arith, w .ahead f q .0))
+        missing (suc f) q =
+            let s : w .d + (w .table .depth f - w .d) ≡ w .table .depth f = omega (arith, w .ahead f q) in
+            let gone : stop m k (w .table .depth f) ≡ 0 = ap (stop m k) (sym s) ∙ stop-past (w .table) k (w .d) (w .table .depth f - w .d) (here ∙ z) in
+            absurd (omega (arith, found-there (w .table) k f q))
 
-        none : entryOf m k ≡ 0
-        none = missing (entryOf m k) refl
+    module _ (j : ℕ) (f : e ≡ 0 → ⊥) (own : j ≡ key m e) where
+      stands : stop m k (w .d) ≡ suc (e - 1)
+      stands = omega (arith, here)
 
-    module _ (j v : ℕ) (f : e ≡ 0 → ⊥) (r : j ≡ key m e) (g : j ≡ k → ⊥) (h : v ≡ get m (linkAt (digits % 2) e)) where
-      e-is : stop m k d ≡ suc (e - 1)
-      e-is = omega (arith, w .is)
+      same : key m (suc (e - 1)) ≡ j
+      same = ap (key m) (let s : suc (e - 1) ≡ e = omega arith in s) ∙ sym own
 
-      same : key m e ≡ key m (suc (e - 1))
-      same = ap (key m) (let s : e ≡ suc (e - 1) = omega arith in s)
+      pub seek-found : j ≡ k → Sought m k at
+      seek-found q =
+          let found : entryOf m k ≡ suc (e - 1) = ap (entryOf m) (sym (same ∙ q)) ∙ w .table .distinct (e - 1) (w .table .alike k (w .d) (e - 1) stands .0) in
+          record { here = sym r ∙ sym here ∙ stands ∙ sym found; within = w .within; slot = λ z. absurd (omega arith) }
 
-      -- an entry that is alike in eight digits has the key
-      shallow : d < 8
-      shallow = go (decLt d 8) (ℕ-discrete d 8)
+      -- the entry is not the key's, which lies ahead
+      further : (j ≡ k → ⊥) → (i : ℕ) → entryOf m k ≡ suc i → suc (w .d) ≤ w .table .depth i
+      further g i q = go (ℕ-discrete (w .d) (w .table .depth i))
         where
-          nine : d ≡ 9 → key m (suc (e - 1)) ≡ k
-          nine q =
-              alike-eight (key m (suc (e - 1))) k (t .below (e - 1) (omega (arith, w .is, stop-within m k d))) small
-              (alike-shorter 8 (key m (suc (e - 1))) k (subst (λ (d : ℕ). alike d (key m (suc (e - 1))) k ≡ true) q (stop-is m k d (e - 1) e-is)))
+          go : Dec (w .d ≡ w .table .depth i) → suc (w .d) ≤ w .table .depth i
+          go (yes p) =
+              let x : suc (e - 1) ≡ suc i = sym stands ∙ ap (stop m k) p ∙ found-there (w .table) k i q in
+              absurd (g (sym same ∙ ap (key m) x ∙ found-key m k i q))
+          go (no n) = omega (arith, w .ahead i q)
 
-          go : Dec (d < 8) → Dec (d ≡ 8) → d < 8
-          go (yes l) x = l
-          go (no n) (yes q) = absurd (g (r ∙ same ∙ walk-is-short t k (e - 1) small (ap (stop m k) (sym q) ∙ e-is)))
-          go (no n) (no o) = absurd (g (r ∙ same ∙ nine (omega (arith, w .few))))
-
-      behind-next : (i : ℕ) → suc d ≡ suc i → stop m k i ≡ 0 → ⊥
-      behind-next i q z = let s : d ≡ i = omega arith in f (w .is ∙ ap (stop m k) s ∙ z)
-
-      slot-next : linkAt (digits % 2) e ≡ slotAt m k (suc d)
-      unfolding slotAt
-      slot-next = rw (w .digits-are, w .is)
-
-      is-next : v ≡ stop m k (suc d)
-      is-next = h ∙ ap (get m) slot-next ∙ slot-holds t k (suc d) behind-next
-
-      ahead-next : (i : ℕ) → entryOf m k ≡ suc i → (1 ≤ v) × (v ≤ suc i)
-      ahead-next i q =
-          let past : (e ≡ suc i → ⊥) = (λ y. g (r ∙ ap (key m) y ∙ found-key m k i q)) in
-          subst (λ (n : ℕ). (1 ≤ n) × (n ≤ suc i)) (sym (is-next ∙ stop-next m k d (λ z. f (w .is ∙ z))))
-          (first-some (λ e. alike (suc d) (key m e) k) (stop m k d) (number m) i (omega (arith, w .ahead i q .1, w .is)) (omega (arith, found-within m k)) (alike-found m k (suc d) i q))
-
-      pub seek-next : Seeking m k (linkAt (digits % 2) e) (digits / 2) (d + 1) v
-      unfolding half
-      seek-next = rw (add-one d) (record {
-        few = omega (arith, shallow);
-        digits-are = ap (λ (q : ℕ). q / 2) (w .digits-are);
-        at-is = slot-next;
-        is = is-next;
-        behind = behind-next;
-        ahead = ahead-next;
-      })
-
-      pub seek-less : longest - (d + 1) < longest - d
-      seek-less = omega (arith, shallow)
+      pub seek-next : (a : ℕ) → (j ≡ k → ⊥) → a ≡ linkAt (digits % 2) e → Seeking m k a (digits / 2)
+      unfolding rest slotAt
+      seek-next a g h = go (w .left) refl
+        where
+          go : (l : ℕ) → w .left ≡ l → Seeking m k a (digits / 2)
+          go zero q =
+              let s : deepest ≡ w .d = omega (arith, w .few) in
+              absurd (g (sym same ∙ walk-is-short (w .table) k (e - 1) (w .small) (ap (stop m k) s ∙ stands)))
+          go (suc l) q = record {
+            table = w .table;
+            small = w .small;
+            d = suc (w .d);
+            left = l;
+            few = omega (arith, w .few);
+            digits-are = ap (λ (n : ℕ). n / 2) (w .digits-are);
+            top = (let y : 2 ^ suc l ≤ digits = rw q at (w .top) in omega arith);
+            at-is = h ∙ rw (w .digits-are, here);
+            within = omega (arith, entry-few);
+            end = w .end ∙ ap (λ (n : ℕ). slotAt m k (endFrom m k n (w .d))) q ∙ ap (slotAt m k) (end-on m k l (w .d) (λ z. f (sym here ∙ z)));
+            ahead = further g;
+          }

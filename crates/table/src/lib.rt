@@ -1,10 +1,10 @@
 // A table of numbered entries in a lent slice, found by their keys. Entries have the numbers 1, 2, .. in the order in which they were made, and
 // 0 is none. The keys of one residue are a tree, in which the binary digits of the quotient lead the way: a walk meets at most 9 entries.
 ghost use mathlib.Core.Path.{_≡_};
-ghost use Prim.Native.Nat.{_+_, _<_, _≤_};
+ghost use mathlib.Core.Bool.{true};
+ghost use Prim.Native.Nat.{_<_, _≤_};
 ghost use lib.ListN.{length, getD};
-ghost use Rattle.table.specs.Table.{Table, size, room, keyLimit, numberAt, valueAt, entryOf, slotOf, added, grown, valued};
-ghost use Rattle.table.specs.Seek.{Sought};
+ghost use Rattle.table.specs.inner.Table.{Table, Sought, size, room, keyLimit, valueAt, entryOf, grown, valued};
 
 // How many numbers a table has.
 pub const SIZE: usize = 655_360;
@@ -17,13 +17,10 @@ const NUMBER: usize = TREES;
 
 const KEYS: usize = TREES + 1;
 
-const LINKS: usize = TREES + 2;
-
-const OTHERS: usize = TREES + 3;
-
 const VALUES: usize = TREES + 4;
 
-const SECONDS: usize = TREES + 5;
+// How many entries there is room for.
+const ROOM: u32 = 100_020;
 
 // One number of a table.
 fn read(m: &[u32], at: usize) -> usize
@@ -33,57 +30,53 @@ fn read(m: &[u32], at: usize) -> usize
     m[at] as usize
 }
 
-// Where the number of the entry with the key stands, or the 0 at which a walk for it ends. `met` counts the entries that were passed.
+// Where the number of the entry with the key stands, or the 0 at which a walk for it ends. With a 1 above them the digits fall at every step.
 fn seek(m: &[u32], key: usize) -> usize
     requires { ⌜ Table (now m) × (key < keyLimit) ⌝ }
     ensures { λ r. ⌜ Sought (now (m .entry)) key r ⌝ }
 {
     let mut at = key % TREES;
-    let mut digits = key / TREES;
-    let mut met: usize = 0;
-    let mut e = read(m, at);
-    while e != 0 {
-        if read(m, KEYS + 5 * e) == key {
+    let mut digits = key / TREES + 256;
+    loop {
+        let e = read(m, at);
+        if e == 0 {
             return at;
         }
-        at = LINKS + digits % 2 + 5 * e;
+        let own = KEYS + 5 * e;
+        if read(m, own) == key {
+            return at;
+        }
+        at = own + 1 + digits % 2;
         digits = digits / 2;
-        met += 1;
-        e = read(m, at);
     }
-    at
 }
 
-// Makes an entry whose links and values are 0, and puts its number where the walk for its key ended.
+// Makes the entry of a missing key, if there is room, and puts its number where the walk ended. Its links and values are 0 already.
 fn add(m: &mut [u32], key: usize, slot: usize) -> usize
-    requires { ⌜ (length (now m) ≡ size) × (getD (now m) numberAt 0 < room) × (key < keyLimit) × (slot ≡ slotOf (now m) key) × (slot < size) ⌝ }
-    ensures { λ r. ⌜ (r ≡ getD (now (m .entry)) numberAt 0 + 1) × (now (m .exit) ≡ added (now (m .entry)) key) ⌝ }
+    requires { ⌜ Table (now m) × (key < keyLimit) × Sought (now m) key slot × (getD (now m) slot 0 ≡ 0) ⌝ }
+    ensures { λ r. ⌜ (now (m .exit) ≡ grown (now (m .entry)) key) × (r ≡ entryOf (now (m .exit)) key) ⌝ }
 {
-    let e = read(m, NUMBER) + 1;
-    m[KEYS + 5 * e] = key as u32;
-    m[LINKS + 5 * e] = 0;
-    m[OTHERS + 5 * e] = 0;
-    m[VALUES + 5 * e] = 0;
-    m[SECONDS + 5 * e] = 0;
-    m[slot] = e as u32;
-    m[NUMBER] = e as u32;
-    e
+    let e = m[NUMBER] + 1;
+    if e > ROOM {
+        return 0;
+    }
+    m[KEYS + 5 * (e as usize)] = key as u32;
+    m[slot] = e;
+    m[NUMBER] = e;
+    e as usize
 }
 
-// The number of the entry with the key. Where it is missing the entry is made, if it may be, and else the number is 0.
-pub fn make(m: &mut [u32], key: usize, may: bool) -> usize
-    requires { ⌜ Table (now m) × (getD (now m) numberAt 0 < room) × (key < keyLimit) ⌝ }
-    ensures { λ r. ⌜ (now (m .exit) ≡ grown (now (m .entry)) key may) × (r ≡ entryOf (now (m .exit)) key) ⌝ }
+// The number of the entry with the key. Where it is missing the entry is made, if there is room, and else the number is 0.
+pub fn make(m: &mut [u32], key: usize) -> usize
+    requires { ⌜ Table (now m) × (key < keyLimit) ⌝ }
+    ensures { λ r. ⌜ (now (m .exit) ≡ grown (now (m .entry)) key) × (r ≡ entryOf (now (m .exit)) key) ⌝ }
 {
     let slot = seek(m, key);
-    let e = read(m, slot);
+    let e = m[slot] as usize;
     if e != 0 {
         return e;
     }
-    if may {
-        return add(m, key, slot);
-    }
-    0
+    add(m, key, slot)
 }
 
 // Value j of the entry e.

@@ -1,9 +1,12 @@
--- The root's 52 digits are near the exact n-th root of 1/100: the last fraction that passed the test is not above it, and the one after, which failed, is not below it, but for the
--- roundings of the power. Those are 2 n factors of 1 + 2 ^ -53 at most, two for each factor of the power, so they move the root by two units of 2 ^ -52 at most. Assumes nothing.
+-- The root's 52 digits are near the exact n-th root of 1/100: the last fraction that passed the test is not above it, and the one after, which
+-- failed, is not below it, but for the
+-- roundings of the power. Those are 2 n factors of 1 + 2 ^ -53 at most, two for each factor of the power, so they move the root by two units of 2 ^
+-- -52 at most. Assumes nothing.
 use mathlib.Core.Path.{_≡_, sym, ap, _∙_, subst}
 use mathlib.Core.Logic.{_⊎_, inl, inr}
 use Prim.Native.Nat.{ℕ, zero, suc, _+_, _-_, _*_, _^_, _≤_, _<_, zero-le}
-use native.Mathlib.Nat.{le-trans, le-of-eq, le-of-lt, add-le-add, not-le-of-lt, zero-lt-suc, mul-comm, mul-sub, mul-zero, zero-mul, mul-le-mul-left, mul-le-mul-right, le-of-mul-le-mul-right, eq-zero-or-pos, pow-suc, pow-le-pow-left}
+use native.Mathlib.Nat.{le-trans, le-of-eq, le-of-lt, add-le-add, not-le-of-lt, zero-lt-suc, mul-comm, mul-sub, mul-zero, zero-mul}
+use native.Mathlib.Nat.{mul-le-mul-left, mul-le-mul-right, le-of-mul-le-mul-right, eq-zero-or-pos, pow-suc, pow-le-pow-left}
 use native.Mathlib.Omega.{arith}
 use mathlib.Core.Bool.{Bool, true, false, not, cond}
 use lib.Dec.{T, leb, leb→le, nleb→lt, lit≤}
@@ -15,9 +18,9 @@ use Rattle.rounding.proofs.Factors.{Under, under-le, under-one, under-trans, un
 use Rattle.rounding.proofs.Compare.{le-true, le-false}
 use Rattle.power.specs.Power.{powerOf}
 use Rattle.power.proofs.Error.{Near, power-near}
-use Rattle.zero_count.specs.ZeroCount.{hundredth, fraction, lowEnough, rootDigits, NearRoot, WithinBillionth}
+use Rattle.zero_count.specs.ZeroCount.{hundredth, fraction, lowEnough, rootDigits, WithinBillionth}
 use Rattle.zero_count.proofs.Fractions.{part-value}
-use Rattle.zero_count.specs.Bounds.{Encloses}
+use Rattle.zero_count.specs.inner.Bounds.{Encloses, NearRoot}
 use Rattle.zero_count.proofs.Digits.{digits-enclosed}
 
 -- ---- two roundings to each factor are two units: b (1 + 1/K) ^ 2 ≤ b + 2 for b ≤ K / 2
@@ -38,17 +41,20 @@ cancel-low : (K W m n : ℕ) → m ^ n * 100 * K ^ (2 * n) ≤ 1 * W ^ n * suc K
 cancel-low K W m n h g =
     le-of-mul-le-mul-right
     (go ((m - 2) ^ n) (m ^ n) (W ^ n) (K ^ (2 * n)) (suc K ^ (2 * n)) h
-    (subst (λ (z : ℕ). (m - 2) ^ n * z ≤ m ^ n * K ^ (2 * n)) (sym (pow-mul (suc K) 2 n)) (subst (λ (z : ℕ). (m - 2) ^ n * (suc K ^ 2) ^ n ≤ m ^ n * z) (sym (pow-mul K 2 n)) (factors (m - 2) m (suc K ^ 2) (K ^ 2) n g))))
+    (subst (λ (z : ℕ). (m - 2) ^ n * z ≤ m ^ n * K ^ (2 * n)) (sym (pow-mul (suc K) 2 n))
+    (subst (λ (z : ℕ). (m - 2) ^ n * (suc K ^ 2) ^ n ≤ m ^ n * z) (sym (pow-mul K 2 n)) (factors (m - 2) m (suc K ^ 2) (K ^ 2) n g))))
     (pow-above (2 * n) (zero-lt-suc K))
   where
     go : (x y w P Q : ℕ) → y * 100 * P ≤ 1 * w * Q → x * Q ≤ y * P → 100 * x * Q ≤ w * Q
     go x y w P Q h g = omega arith
 
-cancel-high : (K W m n : ℕ) → 0 < K → 1 * W ^ n * K ^ (2 * n) ≤ suc m ^ n * 100 * suc K ^ (2 * n) → suc m * suc K ^ 2 ≤ (m + 3) * K ^ 2 → W ^ n ≤ 100 * (m + 3) ^ n
+cancel-high : (K W m n : ℕ) → 0 < K → 1 * W ^ n * K ^ (2 * n) ≤ suc m ^ n * 100 * suc K ^ (2 * n) → suc m * suc K ^ 2 ≤ (m + 3) * K ^ 2 →
+    W ^ n ≤ 100 * (m + 3) ^ n
 cancel-high K W m n k h g =
     le-of-mul-le-mul-right
     (go (suc m ^ n) ((m + 3) ^ n) (W ^ n) (K ^ (2 * n)) (suc K ^ (2 * n)) h
-    (subst (λ (z : ℕ). suc m ^ n * z ≤ (m + 3) ^ n * K ^ (2 * n)) (sym (pow-mul (suc K) 2 n)) (subst (λ (z : ℕ). suc m ^ n * (suc K ^ 2) ^ n ≤ (m + 3) ^ n * z) (sym (pow-mul K 2 n)) (factors (suc m) (m + 3) (suc K ^ 2) (K ^ 2) n g))))
+    (subst (λ (z : ℕ). suc m ^ n * z ≤ (m + 3) ^ n * K ^ (2 * n)) (sym (pow-mul (suc K) 2 n))
+    (subst (λ (z : ℕ). suc m ^ n * (suc K ^ 2) ^ n ≤ (m + 3) ^ n * z) (sym (pow-mul K 2 n)) (factors (suc m) (m + 3) (suc K ^ 2) (K ^ 2) n g))))
     (pow-above (2 * n) k)
   where
     go : (x y w P Q : ℕ) → 1 * w * P ≤ x * 100 * Q → x * Q ≤ y * P → w * P ≤ 100 * y * P
@@ -109,7 +115,8 @@ module _ (n : ℕ) (N : 0 < n) (bound : n + n ≤ 2 ^ prec binary64) where
     -- a power of 1/128 at least
     pass-large : le P hundredth ≡ true → W ^ n ≤ 128 * m ^ n → 100 * (m - 2) ^ n ≤ W ^ n
     pass-large e g =
-        let v : Under K 0 (num P) (den P) (num hundredth) (den hundredth) = under-le K (num P) (den P) (num hundredth) (den hundredth) (le-true P hundredth (near .in-unit .finite) tt e) in
+        let v : Under K 0 (num P) (den P) (num hundredth) (den hundredth) =
+        under-le K (num P) (den P) (num hundredth) (den hundredth) (le-true P hundredth (near .in-unit .finite) tt e) in
         let w : Under K (n + 0 + 1) (m ^ n) (W ^ n) 1 100 =
         under-trans K (n + 0) 1 (m ^ n) (W ^ n) (num hundredth) (den hundredth) 1 100 (den-pos hundredth)
         (under-trans K n 0 (m ^ n) (W ^ n) (num P) (den P) (num hundredth) (den hundredth) (den-pos P) (near .below bound g) v) hundredth-low in
@@ -144,11 +151,13 @@ module _ (n : ℕ) (N : 0 < n) (bound : n + n ≤ 2 ^ prec binary64) where
 
     fail-large : le P' hundredth ≡ false → Above (suc m ^ n) (W ^ n) → W ^ n ≤ 100 * (m + 3) ^ n
     fail-large e u =
-        let v : Under K 0 (num hundredth) (den hundredth) (num P') (den P') = under-le K (num hundredth) (den hundredth) (num P') (den P') (le-of-lt (over e)) in
+        let v : Under K 0 (num hundredth) (den hundredth) (num P') (den P') =
+        under-le K (num hundredth) (den hundredth) (num P') (den P') (le-of-lt (over e)) in
         let w : Under K (0 + 0 + n) 1 100 (suc m ^ n) (W ^ n) =
         under-trans K (0 + 0) n 1 100 (num P') (den P') (suc m ^ n) (W ^ n) (den-pos P')
         (under-trans K 0 0 1 100 (num hundredth) (den hundredth) (num P') (den P') (den-pos hundredth) hundredth-high v) u in
-        cancel-high K W m n (pow-pos (prec binary64)) (more K (0 + 0 + n + 1) n 1 100 (suc m ^ n) (W ^ n) N (omega arith) (under-more K (0 + 0 + n) 1 1 100 (suc m ^ n) (W ^ n) w))
+        cancel-high K W m n (pow-pos (prec binary64))
+        (more K (0 + 0 + n + 1) n 1 100 (suc m ^ n) (W ^ n) N (omega arith) (under-more K (0 + 0 + n) 1 1 100 (suc m ^ n) (W ^ n) w))
         (le-trans (two-roundings (suc m) K (twice (suc m) l) (pow-pos (prec binary64))) (mul-le-mul-right (K ^ 2) (le-of-eq (again m))))
       where
         again : (m : ℕ) → suc m + 2 ≡ m + 3
@@ -156,7 +165,8 @@ module _ (n : ℕ) (N : 0 < n) (bound : n + n ≤ 2 ^ prec binary64) where
 
     -- a power below 1/256 passes
     fail-small : le P' hundredth ≡ false → Above 1 256 → ⊥
-    fail-small e u = clash (num hundredth) (den hundredth) (num P') (den P') (over e) (under-end K n (num P') (den P') 1 256 (pow-pos (prec binary64)) bound u) (lit≤ tt)
+    fail-small e u =
+        clash (num hundredth) (den hundredth) (num P') (den P') (over e) (under-end K n (num P') (den P') 1 256 (pow-pos (prec binary64)) bound u) (lit≤ tt)
       where
         clash : (h k n d : ℕ) → h * d < n * k → n * 256 ≤ 2 * (1 * d) → k ≤ h * 128 → ⊥
         clash h k n d a b c = not-le-of-lt a (omega (arith, mul-le-mul-left n c, mul-le-mul-left h b))
@@ -209,7 +219,9 @@ wider-low D W m n h g =
     turn x y = omega arith
 
     less : (D W m : ℕ) → 2 * D ≤ W → m * D - W ≤ (m - 2) * D
-    less D W m h = le-trans (shrink (m * D) W (2 * D) h) (le-of-eq (sym (mul-comm (m - 2) D ∙ mul-sub D m 2 ∙ ap (λ (z : ℕ). z - D * 2) (mul-comm D m) ∙ ap (λ (z : ℕ). m * D - z) (mul-comm D 2))))
+    less D W m h =
+        le-trans (shrink (m * D) W (2 * D) h)
+        (le-of-eq (sym (mul-comm (m - 2) D ∙ mul-sub D m 2 ∙ ap (λ (z : ℕ). z - D * 2) (mul-comm D m) ∙ ap (λ (z : ℕ). m * D - z) (mul-comm D 2))))
       where
         shrink : (x w d : ℕ) → d ≤ w → x - w ≤ x - d
         shrink x w d h = omega arith
@@ -218,7 +230,8 @@ wider-high : (D W m n : ℕ) → 3 * D ≤ W → W ^ n ≤ 100 * (m + 3) ^ n →
 wider-high D W m n h g =
     le-trans (le-of-eq (mul-pow W D n))
     (le-trans (mul-le-mul-right (D ^ n) g)
-    (le-trans (le-of-eq (turn ((m + 3) ^ n) (D ^ n))) (mul-le-mul-left 100 (le-trans (le-of-eq (sym (mul-pow (m + 3) D n))) (pow-le-pow-left (more D W m h) n)))))
+    (le-trans (le-of-eq (turn ((m + 3) ^ n) (D ^ n)))
+    (mul-le-mul-left 100 (le-trans (le-of-eq (sym (mul-pow (m + 3) D n))) (pow-le-pow-left (more D W m h) n)))))
   where
     turn : (x y : ℕ) → 100 * x * y ≡ 100 * (x * y)
     turn x y = omega arith

@@ -2,7 +2,8 @@
 use mathlib.Core.Path.{_≡_, refl}
 use Prim.Native.Nat.{ℕ, _-_, _^_}
 use borrow.Author.Tests.{ne-eqb}
-use Rattle.zero_count.specs.ZeroCount.{one, places, fraction, rootDigits, zeroCountBound}
+use Rattle.rounding.specs.Doubles.{one}
+use Rattle.zero_count.specs.ZeroCount.{places, fraction, rootDigits, zeroCountBound}
 
 pub bound-of-none : zeroCountBound 0 ≡ one
 unfolding zeroCountBound

@@ -1,4 +1,5 @@
--- The root's digits are the one number that is low enough and whose successor is not: each digit keeps that, and the power keeps the order of the fractions. Assumes nothing.
+-- The root's digits are the one number that is low enough and whose successor is not: each digit keeps that, and the power keeps the order of the
+-- fractions. Assumes nothing.
 use mathlib.Core.Path.{_≡_, refl, sym, ap, _∙_, subst}
 use mathlib.Core.Logic.{_⊎_, inl, inr}
 use mathlib.Core.Bool.{Bool, true, false}
@@ -11,7 +12,7 @@ use Rattle.rounding.proofs.Compare.{holds, clash}
 use Rattle.power.specs.Power.{powerOf}
 use Rattle.power.proofs.Unit.{power-in-unit, power-keeps}
 use Rattle.zero_count.specs.ZeroCount.{hundredth, fraction, lowEnough, rootDigits}
-use Rattle.zero_count.specs.Bounds.{Encloses}
+use Rattle.zero_count.specs.inner.Bounds.{Encloses}
 use Rattle.zero_count.proofs.Fractions.{fraction-double, part-unit, part-keeps}
 
 -- ---- one digit more
@@ -47,7 +48,8 @@ module _ (i n m : ℕ) (k : Encloses i n m (suc m)) where
       turn : m * 2 + 1 ≡ suc (m * 2)
       turn = omega arith
 
-digit : (i n : ℕ) (b : Bool) → lowEnough (suc i) n (rootDigits i n * 2 + 1) ≡ b → Encloses i n (rootDigits i n) (suc (rootDigits i n)) → Encloses (suc i) n (rootDigits (suc i) n) (suc (rootDigits (suc i) n))
+digit : (i n : ℕ) (b : Bool) → lowEnough (suc i) n (rootDigits i n * 2 + 1) ≡ b → Encloses i n (rootDigits i n) (suc (rootDigits i n)) →
+    Encloses (suc i) n (rootDigits (suc i) n) (suc (rootDigits (suc i) n))
 unfolding rootDigits
 digit i n true e k = rw e (stays i n (rootDigits i n) k e)
 digit i n false e k = rw e (goes i n (rootDigits i n) k e)
@@ -66,7 +68,8 @@ low-below n a b h l e g =
     let u = part-unit a (omega arith) in
     let v = part-unit b l in
     clash (lowEnough 52 n a)
-    (le-chain (powerOf (fraction 52 a) n) (powerOf (fraction 52 b) n) hundredth (power-in-unit (fraction 52 a) u n .finite) (power-in-unit (fraction 52 b) v n .finite) tt
+    (le-chain (powerOf (fraction 52 a) n) (powerOf (fraction 52 b) n) hundredth (power-in-unit (fraction 52 a) u n .finite)
+    (power-in-unit (fraction 52 b) v n .finite) tt
     (power-keeps (fraction 52 a) (fraction 52 b) u v (part-keeps a b h) n) (holds (lowEnough 52 n b) e))
     g
 

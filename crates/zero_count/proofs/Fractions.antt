@@ -17,13 +17,15 @@ use Rattle.rounding.proofs.Operations.{div-at}
 use Rattle.rounding.proofs.Ranges.{whole-value}
 use Rattle.power.proofs.Unit.{Unit, unit-of}
 use Rattle.rounding.proofs.Exact.{held-whole, round-held}
-use Rattle.zero_count.specs.ZeroCount.{one, fraction}
+use Rattle.rounding.specs.Doubles.{one}
+use Rattle.zero_count.specs.ZeroCount.{fraction}
 
 pub fraction-value : (i m : ℕ) → i ≤ 1074 → m < 2 ^ 53 → HasValue (fraction i m) false m (2 ^ i)
 unfolding fraction
 fraction-value i m l h =
     round-held binary64 m (2 ^ i) (pow-pos i) (held-whole binary64 m i h l)
-    (lt-of-lt-of-le h (le-trans (lit≤ {m = 2 ^ 53} {n = 2 ^ 1024} tt) (le-trans (le-of-eq (sym (mul-one (2 ^ 1024)))) (mul-le-mul-left (2 ^ 1024) (pow-pos i)))))
+    (lt-of-lt-of-le h
+    (le-trans (lit≤ {m = 2 ^ 53} {n = 2 ^ 1024} tt) (le-trans (le-of-eq (sym (mul-one (2 ^ 1024)))) (mul-le-mul-left (2 ^ 1024) (pow-pos i)))))
 
 pub fraction-fits : (i m : ℕ) → T (fits binary64 (fraction i m))
 unfolding fraction
@@ -32,7 +34,8 @@ fraction-fits i m = round-fits binary64 false m (2 ^ i)
 -- ---- the same fraction with one more place
 pub fraction-double : (i m : ℕ) → fraction (suc i) (m * 2) ≡ fraction i m
 unfolding fraction
-fraction-double i m = round-same binary64 false (m * 2) (2 ^ suc i) m (2 ^ i) (pow-pos (suc i)) (pow-pos i) (turn (2 ^ i) ∙ ap (λ (z : ℕ). m * z) (sym (pow-suc 2 i)))
+fraction-double i m =
+    round-same binary64 false (m * 2) (2 ^ suc i) m (2 ^ i) (pow-pos (suc i)) (pow-pos i) (turn (2 ^ i) ∙ ap (λ (z : ℕ). m * z) (sym (pow-suc 2 i)))
   where
     turn : (a : ℕ) → m * 2 * a ≡ m * (a * 2)
     turn a = omega arith
@@ -49,7 +52,8 @@ module _ (m : ℕ) (h : m ≤ 2 ^ 52) where
   pub part-quotient : div binary64 (ofInt binary64 (pos m)) (fin false 1 (pos 52)) ≡ fraction 52 m
   unfolding fraction
   part-quotient =
-      div-at binary64 (ofInt binary64 (pos m)) (fin false 1 (pos 52)) m 1 (2 ^ 52) 1 (zero-lt-suc 0) (zero-lt-suc 0) (whole-value binary64 m (small m h)) (refl, refl) tt
+      div-at binary64 (ofInt binary64 (pos m)) (fin false 1 (pos 52)) m 1 (2 ^ 52) 1 (zero-lt-suc 0) (zero-lt-suc 0)
+      (whole-value binary64 m (small m h)) (refl, refl) tt
       ∙ ap (λ (z : ℕ). round binary64 false z (2 ^ 52)) (mul-one m)
     where
       small : (m : ℕ) → m ≤ 2 ^ 52 → m ≤ 2 ^ 53

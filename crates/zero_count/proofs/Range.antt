@@ -13,7 +13,8 @@ use lib.Ieee.Order.{le-of-values}
 use lib.Ieee.Positive.{positive, positive-of-value}
 use Rattle.rounding.proofs.FromZero.{zero as +0, nonneg-of-value, zero-le-nonneg}
 use Rattle.rounding.proofs.Ranges.{Between}
-use Rattle.zero_count.specs.ZeroCount.{one, rootDigits, zeroCountBound}
+use Rattle.rounding.specs.Doubles.{one}
+use Rattle.zero_count.specs.ZeroCount.{rootDigits, zeroCountBound}
 use Rattle.zero_count.proofs.Fractions.{fraction-value, fraction-fits}
 use Rattle.zero_count.proofs.Digits.{digits-below}
 use Rattle.zero_count.proofs.Cases.{bound-of-none, bound-of-some}
@@ -28,7 +29,9 @@ module _ (n : ℕ) (N : 0 < n) where
 
   -- 1 - m / 2 ^ 52
   pub bound-value : HasValue (zeroCountBound n) false (2 ^ 52 - rootDigits 52 n) (2 ^ 52)
-  bound-value = subst (λ (z : Float). HasValue z false (2 ^ 52 - rootDigits 52 n) (2 ^ 52)) (sym (bound-of-some n some)) (fraction-value 52 (2 ^ 52 - rootDigits 52 n) (lit≤ tt) (few (rootDigits 52 n)))
+  bound-value =
+      subst (λ (z : Float). HasValue z false (2 ^ 52 - rootDigits 52 n) (2 ^ 52)) (sym (bound-of-some n some))
+      (fraction-value 52 (2 ^ 52 - rootDigits 52 n) (lit≤ tt) (few (rootDigits 52 n)))
     where
       few : (m : ℕ) → 2 ^ 52 - m < 2 ^ 53
       few m = omega arith
@@ -42,7 +45,8 @@ module _ (n : ℕ) (N : 0 < n) where
       record {
         finite = p;
         from = zero-le-nonneg (zeroCountBound n) p;
-        to = le-of-values (zeroCountBound n) one (2 ^ 52 - rootDigits 52 n) (2 ^ 52) 1 1 (pow-pos 52) (zero-lt-suc 0) bound-value (refl, refl) (less (2 ^ 52) (rootDigits 52 n));
+        to = le-of-values (zeroCountBound n) one (2 ^ 52 - rootDigits 52 n) (2 ^ 52) 1 1 (pow-pos 52) (zero-lt-suc 0) bound-value (refl, refl)
+            (less (2 ^ 52) (rootDigits 52 n));
       }
     where
       less : (w m : ℕ) → (w - m) * 1 ≤ 1 * w
@@ -53,7 +57,11 @@ module _ (n : ℕ) (N : 0 < n) where
 
 -- ---- for every n
 one-range : Between +0 one one
-one-range = record { finite = tt; from = zero-le-nonneg one tt; to = le-of-values one one 1 1 1 1 (zero-lt-suc 0) (zero-lt-suc 0) (refl, refl) (refl, refl) (lit≤ tt) }
+one-range = record {
+  finite = tt;
+  from = zero-le-nonneg one tt;
+  to = le-of-values one one 1 1 1 1 (zero-lt-suc 0) (zero-lt-suc 0) (refl, refl) (refl, refl) (lit≤ tt);
+}
 
 one-fits : T (fits binary64 one)
 unfolding fits

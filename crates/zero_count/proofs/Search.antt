@@ -6,7 +6,7 @@ use Prim.Native.Nat.{ℕ, suc, _+_, _-_, _^_, _≤_, _<_}
 use native.Mathlib.Omega.{arith}
 use native.Mathlib.Nat.{le-refl, le-of-lt}
 use Rattle.zero_count.specs.ZeroCount.{lowEnough, rootDigits}
-use Rattle.zero_count.specs.Bounds.{Encloses}
+use Rattle.zero_count.specs.inner.Bounds.{Encloses}
 use Rattle.zero_count.proofs.Digits.{enclosed-digits}
 
 -- ---- from a guess

@@ -2,18 +2,15 @@
 -- The N-th root of 0.01 is found by its binary digits: m / 2 ^ i is the largest fraction of i digits whose N-th power, as `power` rounds it, is at most 0.01.
 use Prim.Native.Nat.{ℕ, zero, suc, _+_, _-_, _*_, _^_, _≤_}
 use mathlib.Core.Bool.{Bool, false, cond}
-use lib.IntN.{negsuc, pos}
+use lib.IntN.{negsuc}
 use lib.Dec.{eqb}
 use lib.Ieee.{Float, fin, binary64, round, le}
+use Rattle.rounding.specs.Doubles.{one}
 use Rattle.power.specs.Power.{powerOf}
 
 -- 0.01 as a double
 abbrev pub hundredth : Float
 hundredth = fin false 5764607523034235 (negsuc 58)
-
--- 1.0
-abbrev pub one : Float
-one = fin false 1 (pos 0)
 
 -- how many binary digits the root has
 abbrev pub places : ℕ
@@ -38,13 +35,8 @@ unfoldable pub zeroCountBound : ℕ → Float
 unfolding fraction rootDigits
 zeroCountBound n = cond (eqb n 0) one (fraction places (2 ^ places - rootDigits places n))
 
--- How near m / 2 ^ 52 is to the n-th root of 1/100, said by powers, since there are no real numbers here: (q - d) ^ n ≤ 1/100 ≤ (q + d) ^ n, times (2 ^ 52) ^ n.
--- d is two units of 2 ^ -52 below and three above.
-pub record NearRoot (n m : ℕ) : Type 0 where
-  pub not-over : 100 * (m - 2) ^ n ≤ (2 ^ places) ^ n
-  pub not-under : (2 ^ places) ^ n ≤ 100 * (m + 3) ^ n
-
--- the same with d = 10 ^ -9: "p_global' for C = 0: within 1e-9"
+-- How near m / 2 ^ 52 is to the n-th root of 1/100, said by powers, since there are no real numbers here: (q - d) ^ n ≤ 1/100 ≤ (q + d) ^ n,
+-- times (2 ^ 52 * 10 ^ 9) ^ n, with d = 10 ^ -9: "p_global' for C = 0: within 1e-9"
 pub record WithinBillionth (n m : ℕ) : Type 0 where
   pub not-over : 100 * (m * 10 ^ 9 - 2 ^ places) ^ n ≤ (2 ^ places * 10 ^ 9) ^ n
   pub not-under : (2 ^ places * 10 ^ 9) ^ n ≤ 100 * (m * 10 ^ 9 + 2 ^ places) ^ n

@@ -3,7 +3,7 @@
 use crate::guess::guess;
 ghost use mathlib.Core.Path.{_≡_};
 ghost use Prim.Native.Nat.{_<_, _≤_, _^_};
-ghost use Rattle.zero_count.specs.Bounds.{Encloses};
+ghost use Rattle.zero_count.specs.inner.Bounds.{Encloses};
 ghost use Rattle.zero_count.specs.ZeroCount.{fraction, lowEnough, places, rootDigits, zeroCountBound};
 
 pub mod guess;

@@ -5,48 +5,30 @@ use borrow.Author.Needs.{needs}
 use Rattle.board.proofs.smallest_of.Statement.{statement}
 use Rattle.board.proofs.smallest_of.Tie as tie
 
-per-symbol-requires : tie.Need-per-symbol-requires
-per-symbol-requires c κs = search needs
-
-entry-of-requires : tie.Need-entry-of-requires
-entry-of-requires c κs = search needs
-
-entry-of-requires-2 : tie.Need-entry-of-requires-2
-entry-of-requires-2 c κs = search needs
-
-per-symbol-requires-2 : tie.Need-per-symbol-requires-2
-per-symbol-requires-2 c κs = search needs
-
-entry-of-requires-3 : tie.Need-entry-of-requires-3
-entry-of-requires-3 c κs = search needs
-
-entry-of-requires-4 : tie.Need-entry-of-requires-4
-entry-of-requires-4 c κs = search needs
-
-smaller-of-requires : tie.Need-smaller-of-requires
-smaller-of-requires c κs = search needs
-
-smaller-of-requires-2 : tie.Need-smaller-of-requires-2
-smaller-of-requires-2 c κs = search needs
-
-smaller-of-requires-3 : tie.Need-smaller-of-requires-3
-smaller-of-requires-3 c κs = search needs
-
 returns : tie.Need-returns
 unfolding smallest
-returns c = c .smaller-of3 .ensures ∙ rw (c .before .smaller-of2 .ensures, c .before .before .smaller-of .ensures, c .before .before .before .entry-of4 .ensures, c .before .before .before .before .entry-of3 .ensures, c .before .before .before .before .before .per-symbol2 .ensures, c .before .before .before .before .before .before .entry-of2 .ensures, c .before .before .before .before .before .before .before .entry-of .ensures, c .before .before .before .before .before .before .before .before .per-symbol .ensures)
+returns c =
+    let of-three = c .before in
+    let of-two = of-three .before in
+    let fourth = of-two .before in
+    let third = fourth .before in
+    let third-bits = third .before in
+    let second = third-bits .before in
+    let first = second .before in
+    c .smaller-of3 .ensures
+    ∙ rw (
+      of-three .smaller-of2 .ensures,
+      of-two .smaller-of .ensures,
+      fourth .entry-of4 .ensures,
+      third .entry-of3 .ensures,
+      third-bits .per-symbol2 .ensures,
+      second .entry-of2 .ensures,
+      first .entry-of .ensures,
+      first .before .per-symbol .ensures,
+    )
 
 pub smallest-of-spec : {M : Type 1} → statement M
 smallest-of-spec =
     tie.close
-    (tie.spec
-    per-symbol-requires
-    entry-of-requires
-    entry-of-requires-2
-    per-symbol-requires-2
-    entry-of-requires-3
-    entry-of-requires-4
-    smaller-of-requires
-    smaller-of-requires-2
-    smaller-of-requires-3
-    returns)
+    (tie.spec (λ c κs. search needs) (λ c κs. search needs) (λ c κs. search needs) (λ c κs. search needs) (λ c κs. search needs)
+    (λ c κs. search needs) (λ c κs. search needs) (λ c κs. search needs) (λ c κs. search needs) returns)

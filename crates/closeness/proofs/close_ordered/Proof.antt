@@ -1,7 +1,8 @@
--- `closeness::close_ordered` meets its contract. What the calls return are the parts of the definition, and each return is the case of the tests before it.
+-- `closeness::close_ordered` meets its contract. Its tests are the definition's, in order, on the magnitudes that it asks for.
 -- Assumes nothing.
-use Rattle.closeness.proofs.Cases.{close-absolute, close-relative, close-ulps}
+use mathlib.Core.Path.{sym, _∙_}
 use borrow.Author.Needs.{needs}
+use Rattle.closeness.specs.Close.{closeOrdered}
 use Rattle.closeness.proofs.close_ordered.Statement.{statement}
 use Rattle.closeness.proofs.close_ordered.Tie as tie
 
@@ -18,31 +19,48 @@ relative-is-nonsense-requires : tie.Need-relative-is-nonsense-requires
 relative-is-nonsense-requires c κs = search needs
 
 returns : tie.Need-returns
+unfolding closeOrdered
 returns c =
-    let n = c .before .relative-is-nonsense in
-    let w = c .before .before in
-    let k = w .before .before .before .args in
-    close-absolute (k .a) (k .b) (k .max-abs-factor) (k .max-rel-factor) (k .max-ulp) _ _ _ (w .magnitude3 .ensures) (w .before .magnitude2 .ensures) (w .before .before .magnitude .ensures)
-    (n .result) (n .ensures) (c .if1 .taken)
+    let n = c .before in
+    let m = n .before in
+    simp (
+      sym (m .before .before .magnitude .ensures),
+      sym (m .before .magnitude2 .ensures),
+      sym (m .magnitude3 .ensures),
+      sym (n .relative-is-nonsense .ensures) ∙ c .if1 .taken,
+    )
 
 returns-2 : tie.Need-returns-2
+unfolding closeOrdered
 returns-2 c =
-    let n = c .before .before .relative-is-nonsense in
-    let w = c .before .before .before in
-    let k = w .before .before .before .args in
-    close-relative (k .a) (k .b) (k .max-abs-factor) (k .max-rel-factor) (k .max-ulp) _ _ _ (w .magnitude3 .ensures) (w .before .magnitude2 .ensures) (w .before .before .magnitude .ensures)
-    (n .result) (n .ensures) (c .before .if1 .left) (c .if2 .taken)
+    let e = c .before in
+    let n = e .before in
+    let m = n .before in
+    simp (
+      sym (m .before .before .magnitude .ensures),
+      sym (m .before .magnitude2 .ensures),
+      sym (m .magnitude3 .ensures),
+      sym (n .relative-is-nonsense .ensures) ∙ e .if1 .left,
+      c .if2 .taken,
+    )
 
 few-apart-requires : tie.Need-few-apart-requires
 few-apart-requires c κs = search needs
 
 returns-3 : tie.Need-returns-3
+unfolding closeOrdered
 returns-3 c =
-    let n = c .before .before .before .relative-is-nonsense in
-    let w = c .before .before .before .before in
-    let k = w .before .before .before .args in
-    close-ulps (k .a) (k .b) (k .max-abs-factor) (k .max-rel-factor) (k .max-ulp) _ _ _ (w .magnitude3 .ensures) (w .before .magnitude2 .ensures) (w .before .before .magnitude .ensures)
-    (n .result) (n .ensures) (c .before .before .if1 .left) (c .before .if2 .left) (c .few-apart .result) (c .few-apart .ensures)
+    let e = c .before .before in
+    let n = e .before in
+    let m = n .before in
+    simp (
+      sym (m .before .before .magnitude .ensures),
+      sym (m .before .magnitude2 .ensures),
+      sym (m .magnitude3 .ensures),
+      sym (n .relative-is-nonsense .ensures) ∙ e .if1 .left,
+      c .before .if2 .left,
+    )
+    (c .few-apart .ensures)
 
 pub close-ordered-spec : {M : Type 1} → statement M
 close-ordered-spec =

@@ -1,4 +1,5 @@
--- `entropy::bits_of` meets its contract: m is a whole number that a double holds, so the cast is exact, and the product with 2 ^ -24 is m / 2 ^ 24 rounded once. Assumes nothing.
+-- `entropy::bits_of` meets its contract: m is a whole number that a double holds, so the cast is exact, and the product with 2 ^ -24 is m / 2 ^ 24
+-- rounded once. Assumes nothing.
 use borrow.Author.Needs.{needs}
 use mathlib.Core.Path.{sym, ap, _∙_}
 use Prim.Native.Nat.{_^_}

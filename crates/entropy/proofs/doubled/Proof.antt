@@ -1,4 +1,5 @@
--- `entropy::doubled` meets its contract. The loop runs the definition's doublings one by one (`Doubling`), and stops at 1 or after eight, where none is left. Assumes nothing.
+-- `entropy::doubled` meets its contract. The loop runs the definition's doublings one by one (`Doubling`), and stops at 1 or after eight, where none
+-- is left. Assumes nothing.
 use Prim.Native.Nat.{_-_}
 use native.Mathlib.Omega.{arith}
 use lib.Ieee.{ofBits}

@@ -1,4 +1,5 @@
--- `entropy::entropy_units` meets its contract: it is the definition's two cases, with the doublings and the logarithm from the callees. There are eight doublings at most, and the
+-- `entropy::entropy_units` meets its contract: it is the definition's two cases, with the doublings and the logarithm from the callees. There are
+-- eight doublings at most, and the
 -- logarithm has 24 digits, so nothing overflows. Assumes nothing.
 use borrow.Author.Needs.{needs}
 use mathlib.Core.Path.{_≡_, sym, ap, _∙_, subst}
@@ -6,7 +7,8 @@ use mathlib.Core.Bool.{true, false}
 use Prim.Native.Nat.{ℕ, _+_, _-_, _*_, _≤_}
 use native.Mathlib.Omega.{arith}
 use lib.Ieee.{Float, ofBits, eq}
-use Rattle.entropy.specs.Entropy.{one, units, wholeBits, leading, logDigits, entropyUnits}
+use Rattle.rounding.specs.Doubles.{one}
+use Rattle.entropy.specs.Entropy.{units, wholeBits, leading, logDigits, entropyUnits}
 use Rattle.entropy.proofs.Rounds.{doublings-few, digits-below}
 use Rattle.entropy.proofs.Cases.{units-at-power, units-between}
 use Rattle.entropy.proofs.entropy_units.Statement.{statement}
@@ -47,7 +49,8 @@ unfolding ofBits
 returns-2 c =
     let d = c .before .before .before .before .doubled in
     let l = c .before .log-units in
-    taken-off (c .before .before .before .before .before .args .p) (d .result .x) (d .result .j) (l .result) (d .ensures) (l .ensures) (c .before .before .if1 .left)
+    taken-off (c .before .before .before .before .before .args .p) (d .result .x) (d .result .j) (l .result) (d .ensures) (l .ensures)
+    (c .before .before .if1 .left)
 
 returns-3 : tie.Need-returns-3
 unfolding ofBits
@@ -55,7 +58,8 @@ returns-3 c =
     let d = c .before .before .before .before .doubled in
     let l = c .before .log-units in
     none (d .result .j * 16777216) (l .result + 2) (c .if2 .left)
-    ∙ taken-off (c .before .before .before .before .before .args .p) (d .result .x) (d .result .j) (l .result) (d .ensures) (l .ensures) (c .before .before .if1 .left)
+    ∙ taken-off (c .before .before .before .before .before .args .p) (d .result .x) (d .result .j) (l .result) (d .ensures) (l .ensures)
+    (c .before .before .if1 .left)
   where
     none : (a b : ℕ) → a ≤ b → 0 ≡ a - b
     none a b h = omega arith

@@ -1,10 +1,12 @@
--- `entropy::log_units` meets its contract. The loop runs the definition's squarings one by one (`Squaring`); the digits stay below 2 ^ i, so none is lost. Assumes nothing.
+-- `entropy::log_units` meets its contract. The loop runs the definition's squarings one by one (`Squaring`); the digits stay below 2 ^ i, so none is
+-- lost. Assumes nothing.
 use mathlib.Core.Path.{_≡_, subst}
 use mathlib.Core.Logic.{⊎-elim}
 use Prim.Native.Nat.{ℕ, _+_, _-_, _*_, _<_}
 use native.Mathlib.Omega.{arith}
 use lib.Ieee.{Float, binary64, mul, ofBits}
-use Rattle.entropy.specs.Entropy.{half, logDigits}
+use Rattle.rounding.specs.Doubles.{half}
+use Rattle.entropy.specs.Entropy.{logDigits}
 use Rattle.entropy.proofs.Rounds.{Squaring, squaring-first, squaring-high, squaring-low, squaring-room}
 use Rattle.entropy.proofs.log_units.Statement.{statement}
 use Rattle.entropy.proofs.log_units.Tie as tie
@@ -22,7 +24,8 @@ mul-bits : tie.Need-mul-bits Inv-loop μ-loop
 mul-bits c = let l = c .before .loop in omega (arith, squaring-room (c .before .before .args .start) (l .x) (l .bits) (l .i) (l .inv) (omega arith))
 
 add-bits : tie.Need-add-bits Inv-loop μ-loop
-add-bits c = let l = c .before .before .loop in omega (arith, squaring-room (c .before .before .before .args .start) (l .x) (l .bits) (l .i) (l .inv) (omega arith))
+add-bits c = let l =
+    c .before .before .loop in omega (arith, squaring-room (c .before .before .before .args .start) (l .x) (l .bits) (l .i) (l .inv) (omega arith))
 
 add-i : tie.Need-add-i Inv-loop μ-loop
 add-i c = omega arith
@@ -37,8 +40,10 @@ loop-again c =
     let l = c .before .before .loop in
     let t : l .i < 24 = omega arith in
     ⊎-elim
-    (λ w. at s (c .if1 .x) (mul binary64 (mul binary64 (l .x) (l .x)) half) (c .if1 .bits) (l .bits * 2 + 1) (l .i + 1) (w .1) (w .2) (squaring-high s (l .x) (l .bits) (l .i) (l .inv) t (w .0 .taken)))
-    (λ w. at s (c .if1 .x) (mul binary64 (l .x) (l .x)) (c .if1 .bits) (l .bits * 2) (l .i + 1) (w .1) (w .2) (squaring-low s (l .x) (l .bits) (l .i) (l .inv) t (w .0 .left)))
+    (λ w. at s (c .if1 .x) (mul binary64 (mul binary64 (l .x) (l .x)) half) (c .if1 .bits) (l .bits * 2 + 1) (l .i + 1) (w .1) (w .2)
+    (squaring-high s (l .x) (l .bits) (l .i) (l .inv) t (w .0 .taken)))
+    (λ w. at s (c .if1 .x) (mul binary64 (l .x) (l .x)) (c .if1 .bits) (l .bits * 2) (l .i + 1) (w .1) (w .2)
+    (squaring-low s (l .x) (l .bits) (l .i) (l .inv) t (w .0 .left)))
     (c .if1 .came)
   where
     -- at whatever equals the new values

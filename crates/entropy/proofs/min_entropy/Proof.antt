@@ -1,4 +1,5 @@
--- `entropy::min_entropy` meets its contract: the two tests are the definition's range, inside it the answer is the figure, and outside it number 5. Assumes nothing.
+-- `entropy::min_entropy` meets its contract: the two tests are the definition's range, inside it the answer is the figure, and outside it number 5.
+-- Assumes nothing.
 use borrow.Author.Needs.{needs}
 use mathlib.Core.Path.{sym, ap, _∙_}
 use mathlib.Core.Logic.{⊎-elim}
@@ -23,7 +24,8 @@ returns : tie.Need-returns
 unfolding ofBits entropyOf
 returns c =
     let u = c .before .entropy-units in
-    ap answered (c .bits-of .ensures ∙ ap bitsOf (u .ensures)) ∙ sym (answer-in (c .before .before .before .before .args .p) (c .before .before .before .if1 .taken) (c .before .before .if2 .taken))
+    ap answered (c .bits-of .ensures ∙ ap bitsOf (u .ensures))
+    ∙ sym (answer-in (c .before .before .before .before .args .p) (c .before .before .before .if1 .taken) (c .before .before .if2 .taken))
 
 refused-value-requires : tie.Need-refused-value-requires
 refused-value-requires c κs = search needs

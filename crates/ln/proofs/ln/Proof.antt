@@ -1,4 +1,5 @@
--- `ln::ln` meets its contract. A NaN and the infinity are returned as they are, a zero gives minus infinity, and what is below zero a NaN; what is left has a pattern
+-- `ln::ln` meets its contract. A NaN and the infinity are returned as they are, a zero gives minus infinity, and what is below zero a NaN; what is
+-- left has a pattern
 -- between those of 0 and of the infinity, and `positive` has its logarithm. Assumes nothing.
 use mathlib.Core.Path.{_≡_, sym, ap, _∙_, subst}
 use lib.Dec.{T}
@@ -45,7 +46,8 @@ returns-4 c =
 above : (c : tie.Else4) → Between (toBits binary64 (c .before .before .before .before .args .x))
 above c =
     let k = c .before .before .before .before in
-    positive-pattern (k .args .x) (ofBits binary64 0) (held k) naught-is (c .before .before .before .if1 .left) (c .before .before .if2 .left) (c .before .if3 .left) (c .if4 .left)
+    positive-pattern (k .args .x) (ofBits binary64 0) (held k) naught-is (c .before .before .before .if1 .left) (c .before .before .if2 .left)
+    (c .before .if3 .left) (c .if4 .left)
 
 positive-requires : tie.Need-positive-requires
 positive-requires c κs = above c

@@ -1,4 +1,5 @@
--- `ln::positive` meets its contract. Shifted or with its leading one added, the fraction is the significand of the number, and the number is the significand times
+-- `ln::positive` meets its contract. Shifted or with its leading one added, the fraction is the significand of the number, and the number is the
+-- significand times
 -- 2 ^ (place - 52) smallest doubles. Assumes nothing.
 use mathlib.Core.Path.{_≡_, sym, ap, _∙_}
 use Prim.Native.Nat.{ℕ, _+_, _-_, _*_, _/_, _%_, _^_}
@@ -6,9 +7,9 @@ use native.Mathlib.Nat.{lt-of-lt-of-le, mod-eq-of-lt}
 use native.Mathlib.Omega.{arith}
 use lib.Pow.{pow-mono}
 use borrow.Author.Needs.{needs}
-use Rattle.sqrt.specs.Steps.{unitsOf}
+use Rattle.sqrt.specs.inner.Steps.{unitsOf}
 use Rattle.sqrt.proofs.Shift.{Shifted, shifted-fraction}
-use Rattle.ln.specs.Steps.{lnAt}
+use Rattle.ln.specs.inner.Steps.{lnAt}
 use Rattle.ln.proofs.Reduction.{reduced-is, low-side, high-side}
 use Rattle.ln.proofs.positive.Statement.{statement}
 use Rattle.ln.proofs.positive.Tie as tie

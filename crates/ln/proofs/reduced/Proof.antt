@@ -1,4 +1,5 @@
--- `ln::reduced` meets its contract. The test on q is the definition's test on its square, the pattern that is made is that of q / 2 ^ 52, or of half of it, and the
+-- `ln::reduced` meets its contract. The test on q is the definition's test on its square, the pattern that is made is that of q / 2 ^ 52, or of half
+-- of it, and the
 -- exponent is the place of the leading one, or one more. Assumes nothing.
 use mathlib.Core.Path.{_≡_, refl, sym, ap, _∙_}
 use Prim.Native.Nat.{ℕ, suc, _^_, _≤_, _<_}
@@ -7,8 +8,9 @@ use native.Mathlib.Omega.{arith}
 use mathlib.Core.Bool.{Bool, false, cond}
 use lib.Ieee.{Float, binary64, minus, round, ofInt}
 use borrow.Author.Needs.{needs}
-use Rattle.ln.specs.Ln.{_⊖_, one, series}
-use Rattle.ln.specs.Steps.{lnAt}
+use Rattle.rounding.specs.Doubles.{_⊖_, one}
+use Rattle.ln.specs.Ln.{series}
+use Rattle.ln.specs.inner.Steps.{lnAt}
 use Rattle.ln.proofs.Literals.{one-is}
 use Rattle.ln.proofs.Fraction.{fraction-is, fraction-no-nan}
 use Rattle.ln.proofs.Reduction.{under-root, over-root}

@@ -2,7 +2,8 @@
 use mathlib.Core.Path.{ap, _∙_}
 use lib.Ieee.{Float, binary64, ofBits}
 use borrow.Author.Needs.{needs}
-use Rattle.ln.specs.Ln.{_⊕_, _⊖_, _⊗_, _⊘_, ln2Lo, ln2Hi, tail, series}
+use Rattle.rounding.specs.Doubles.{_⊕_, _⊖_, _⊗_, _⊘_}
+use Rattle.ln.specs.Ln.{ln2Lo, ln2Hi, tail, series}
 use Rattle.ln.proofs.Literals.{half-is, two-is}
 use Rattle.ln.proofs.series.Statement.{statement}
 use Rattle.ln.proofs.series.Tie as tie

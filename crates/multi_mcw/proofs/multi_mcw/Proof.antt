@@ -1,103 +1,67 @@
--- `multi_mcw` meets its contract. Each refusal comes by its own test, in the order of the definition, and else the estimate is that of the counts over the bits. Assumes nothing.
-use mathlib.Core.Path.{_∙_}
-use Prim.Native.Nat.{_≤_}
+-- `multi_mcw` meets its contract. It is refused by the number of `bits_refusal`, and else the estimate is that of the counts over the bits.
+-- Assumes nothing.
+use mathlib.Core.Path.{ap, sym, _∙_}
+use mathlib.Core.Bool.{false}
+use Prim.Native.Nat.{ℕ, _*_, _≤_}
 use native.Mathlib.Omega.{arith}
 use borrow.Author.Needs.{needs}
 use denote.Ref.{now}
 use lib.ListN.{length}
-use Rattle.capture.specs.Limit.{symbolLimit}
-use Rattle.capture.proofs.Clamping.{width-least, width-most, bits-small}
-use Rattle.multi_mcw.proofs.Answers.{bits-too-long, bits-not-run, bits-too-wide, bits-done}
+use Rattle.capture.proofs.Clamping.{bits-small}
+use Rattle.capture.proofs.Refusals.{Taken, taken, taken-source}
+use Rattle.mcw_bits.specs.Mcw.{leastSamples}
+use Rattle.multi_mcw.proofs.Answers.{bits-refused, bits-ran}
 use Rattle.multi_mcw.proofs.multi_mcw.Statement.{statement}
 use Rattle.multi_mcw.proofs.multi_mcw.Tie as tie
 
--- the length is below the limit
-fits : (c : tie.Else1) → length (now (c .before .before .args .symbols)) ≤ symbolLimit
-unfolding symbolLimit
-fits c = c .if1 .left
+-- the entry, from where the number is known; and that, from where the width is
+abbrev start : tie.After-bits-refusal → tie.Start
+start c = c .before .before
 
-refused-as-requires : tie.Need-refused-as-requires
-refused-as-requires c κs = search needs
+abbrev entry : tie.After-width-of → tie.After-bits-refusal
+entry c = c .before .before
+
+-- not refused
+ran : (c : tie.Else1) → let a = start (c .before) .args in Taken (now (a .symbols)) (a .bits-per-symbol) leastSamples false
+ran c = taken _ _ _ _ (sym (c .before .bits-refusal .ensures) ∙ c .if1 .left)
+
+many : (c : tie.After-width-of) → leastSamples ≤ length (now (start (entry c) .args .symbols)) * c .width-of .result
+many c = omega (arith, ap (λ (v : ℕ). length (now (start (entry c) .args .symbols)) * v) (c .width-of .ensures), ran (c .before) .many)
 
 returns : tie.Need-returns
-unfolding symbolLimit
-returns c = let z = c .before .before .before in c .refused-as .ensures ∙ bits-too-long (now (z .args .symbols)) (z .args .bits-per-symbol) (c .before .if1 .taken)
-
-width-of-requires : tie.Need-width-of-requires
-width-of-requires c κs = search needs
-
-cast-n : tie.Need-cast-n
-cast-n c = search needs
+returns c =
+    let n = c .before .before in
+    bits-refused (now (start n .args .symbols)) (start n .args .bits-per-symbol) (n .bits-refusal .ensures) (c .before .if1 .taken)
+    (c .refused-on .ensures)
 
 mul-n : tie.Need-mul-n
-mul-n c = let e = c .before in let z = e .before .before in omega (arith, bits-small (length (now (z .args .symbols))) (z .args .bits-per-symbol) (fits e) (c .width-of .ensures))
+mul-n c = omega (arith, bits-small _ _ (ran (c .before) .fits) (c .width-of .ensures))
 
-refused-as-requires-2 : tie.Need-refused-as-requires-2
-refused-as-requires-2 c κs = search needs
+mcw-bits-requires : tie.Need-mcw-bits-requires
+mcw-bits-requires c κs = taken-source (ran (c .before)) (c .width-of .ensures)
+
+sub-prediction-estimate : tie.Need-sub-prediction-estimate
+sub-prediction-estimate c = omega (arith, many (c .before))
 
 returns-2 : tie.Need-returns-2
 returns-2 c =
-    let b = c .before .before in
-    let e = b .before in
-    let z = e .before .before in
-    c .refused-as2 .ensures ∙ bits-not-run (now (z .args .symbols)) (z .args .bits-per-symbol) (fits e) (b .width-of .ensures) (c .before .if2 .taken)
-
-too-wide-at-requires : tie.Need-too-wide-at-requires
-too-wide-at-requires c κs = search needs
-
-refused-at-requires : tie.Need-refused-at-requires
-refused-at-requires c κs = search needs
-
-returns-3 : tie.Need-returns-3
-returns-3 c =
-    let p = c .before .before in
-    let b = p .before .before in
-    let e = b .before in
-    let z = e .before .before in
-    c .refused-at .ensures ∙ bits-too-wide (now (z .args .symbols)) (z .args .bits-per-symbol) (fits e) (b .width-of .ensures) (p .before .if2 .left) (p .too-wide-at .ensures) (c .before .if3 .taken)
-
-mcw-bits-requires : tie.Need-mcw-bits-requires
-mcw-bits-requires c κs =
-    let b = c .before .before .before in
-    let e = b .before in
-    let w = b .before .before .before .args .bits-per-symbol in
-    record {
-      some = omega (arith, b .width-of .ensures, width-least w);
-      narrow = omega (arith, b .width-of .ensures, width-most w);
-      within = omega arith;
-      short = fits e;
-    }
-
-sub-prediction-estimate : tie.Need-sub-prediction-estimate
-sub-prediction-estimate c = search needs
-
-prediction-estimate-requires : tie.Need-prediction-estimate-requires
-prediction-estimate-requires c κs = search needs
-
-returns-4 : tie.Need-returns-4
-returns-4 c =
-    let r = c .before in
-    let p = r .before .before in
-    let b = p .before .before in
-    let e = b .before in
-    let z = e .before .before in
-    c .prediction-estimate .ensures ∙ bits-done (now (z .args .symbols)) (z .args .bits-per-symbol) (fits e) (b .width-of .ensures) (p .before .if2 .left) (p .too-wide-at .ensures) (r .before .if3 .left) (r .mcw-bits .ensures)
+    let w = c .before .before in
+    let n = entry w in
+    c .prediction-estimate .ensures
+    ∙ bits-ran (now (start n .args .symbols)) (start n .args .bits-per-symbol) (n .bits-refusal .ensures) (w .before .if1 .left)
+    (w .width-of .ensures) (c .before .mcw-bits .ensures)
 
 pub multi-mcw-spec : {M : Type 1} → statement M
 multi-mcw-spec =
     tie.close
     (tie.spec
-    refused-as-requires
+    (λ c κs. search needs)
+    (λ c κs. search needs)
     returns
-    width-of-requires
-    cast-n
+    (λ c κs. search needs)
+    (λ c. search needs)
     mul-n
-    refused-as-requires-2
-    returns-2
-    too-wide-at-requires
-    refused-at-requires
-    returns-3
     mcw-bits-requires
     sub-prediction-estimate
-    prediction-estimate-requires
-    returns-4)
+    (λ c κs. search needs)
+    returns-2)

@@ -1,100 +1,132 @@
--- `multi_mmc::multi_mmc_literal` meets its contract. Each return is a case of the answer's definition, in the order 1, 6, 2, and then by the number of values.
--- Assumes nothing.
+-- `multi_mmc::multi_mmc_literal` meets its contract. It is refused by the number of `literal_refusal`; else the race is over the rising numbers, which are
+-- bits where there are at most two. Assumes nothing.
+use mathlib.Core.Path.{_≡_, ap, _∙_}
+use mathlib.Core.List.{List}
+use Prim.Native.Nat.{ℕ, _≤_, _<_}
 use native.Mathlib.Omega.{arith}
-use Rattle.capture.specs.Limit.{symbolLimit}
-use Rattle.mmc_bits.specs.Space.{size}
-use Rattle.mmc_store.specs.Space.{size as storeSize}
-use Rattle.multi_mmc.proofs.LiteralAnswers.{too-long, too-few, out-short, two-short, two-runs, many-short, many-runs}
 use borrow.Author.Needs.{needs}
+use denote.Ref.{now}
+use Rattle.alphabet.specs.Alphabet.{distinct, sorted}
+use Rattle.alphabet.proofs.Alphabets.{Bytes}
+use Rattle.mmc_bits.specs.Levels.{cap, levels}
+use Rattle.mmc_bits.specs.Space.{final}
+use Rattle.multi_mmc.specs.Tracks.{bitsEstimate, storeEstimate}
+use Rattle.multi_mmc.proofs.LiteralAnswers.{Taken, literal-refused, literal-taken, many-needed, many-ran, two-needed, two-ran}
+use Rattle.multi_mmc.proofs.Translated.{Translation, bits-are, size-is, source-is, taken-is, taken-length, written-is}
 use Rattle.multi_mmc.proofs.multi_mmc_literal.Statement.{statement}
 use Rattle.multi_mmc.proofs.multi_mmc_literal.Tie as tie
 
-refused-as-requires : tie.Need-refused-as-requires
-refused-as-requires c κs = search needs
+-- from where the number is known: the entry
+abbrev start : tie.After-literal-refusal → tie.After-shared-slice-known
+start c = c .before .before .before .before .before
 
-returns : tie.Need-returns
-unfolding symbolLimit
-returns c = too-long (c .before .before .before .before .before .args .symbols .now) (c .before .before .before .before .before .args .out .now) (c .before .before .before .before .before .args .space .now) (c .refused-as .ensures) (c .before .if1 .taken)
+abbrev symbols : tie.After-literal-refusal → List ℕ
+symbols c = now (start c .before .args .symbols)
 
-refused-as-requires-2 : tie.Need-refused-as-requires-2
-refused-as-requires-2 c κs = search needs
+abbrev out : tie.After-literal-refusal → List ℕ
+out c = now (start c .before .args .out)
 
-returns-2 : tie.Need-returns-2
-unfolding symbolLimit
-returns-2 c = too-few (c .before .before .before .before .before .before .args .symbols .now) (c .before .before .before .before .before .before .args .out .now) (c .before .before .before .before .before .before .args .space .now) (c .before .before .if1 .left) (c .refused-as2 .ensures) (c .before .if2 .taken)
+abbrev space : tie.After-literal-refusal → List ℕ
+space c = now (start c .before .args .space)
 
-refused-as-requires-3 : tie.Need-refused-as-requires-3
-refused-as-requires-3 c κs = search needs
+-- the number, from where the symbols are translated; and that, from where the samples are taken
+abbrev entry : tie.After-value-sorted-alphabet → tie.After-literal-refusal
+entry c = c .before .before .before
 
-returns-3 : tie.Need-returns-3
-unfolding symbolLimit
-returns-3 c = out-short (c .before .before .before .before .before .before .before .args .symbols .now) (c .before .before .before .before .before .before .before .args .out .now) (c .before .before .before .before .before .before .before .args .space .now) (c .before .before .before .if1 .left) (c .before .before .if2 .left) (c .refused-as3 .ensures) (c .before .if3 .taken)
+abbrev translated : tie.After-samples → tie.After-value-sorted-alphabet
+translated c = c .before .before .before
 
-alphabet-size-requires : tie.Need-alphabet-size-requires
-alphabet-size-requires c κs = search needs
+bytes : (c : tie.After-literal-refusal) → Bytes (symbols c)
+bytes c i l = omega (arith, start c .shared-slice-known .given i)
 
-refused-as-requires-4 : tie.Need-refused-as-requires-4
-refused-as-requires-4 c κs = search needs
+-- not refused
+done : (c : tie.After-value-sorted-alphabet) → entry c .literal-refusal .result ≡ 0
+done c = c .before .before .if1 .left
 
-returns-4 : tie.Need-returns-4
-unfolding symbolLimit size
-returns-4 c = two-short (c .before .before .before .before .before .before .before .before .before .before .args .symbols .now) (c .before .before .before .before .before .before .before .before .before .before .args .out .now) (c .before .before .before .before .before .before .before .before .before .before .args .space .now) (c .before .before .before .before .before .before .if1 .left) (c .before .before .before .before .before .if2 .left) (c .before .before .before .before .if3 .left) (c .before .before .before .alphabet-size .ensures) (c .before .before .if4 .taken) (c .refused-as4 .ensures) (c .before .if5 .taken)
+ran : (c : tie.After-value-sorted-alphabet) → Taken (symbols (entry c)) (out (entry c)) (space (entry c))
+ran c = literal-taken _ _ _ (entry c .literal-refusal .ensures) (done c)
 
-two-valued-requires : tie.Need-two-valued-requires
-unfolding symbolLimit size
-two-valued-requires c κs = (c .before .before .before .before .before .before .if2 .left, c .before .before .before .before .before .before .before .if1 .left, c .before .before .before .before .before .if3 .left, omega (arith, c .before .before .before .before .alphabet-size .ensures, c .before .before .before .if4 .taken), c .before .before .if5 .left)
+translation : (c : tie.After-value-sorted-alphabet)
+    → Translation (symbols (entry c)) (out (entry c)) (c .value-sorted-alphabet .result) (c .value-sorted-alphabet .last .1 .0)
+translation c =
+    record {
+      fits = ran c .fits;
+      room = ran c .room;
+      answers = c .value-sorted-alphabet .ensures .0;
+      leaves = c .value-sorted-alphabet .ensures .1;
+    }
 
-same-length : tie.Need-same-length
-same-length c = search needs
+few : (c : tie.Then2) → distinct (symbols (entry (translated (c .before .before)))) ≤ 2
+few c = omega (arith, size-is (translation (translated (c .before .before))), c .if2 .taken)
 
-same-length-2 : tie.Need-same-length-2
-same-length-2 c = search needs
+more : (c : tie.Else2) → 2 < distinct (symbols (entry (translated (c .before .before))))
+more c = omega (arith, size-is (translation (translated (c .before .before))), c .if2 .left)
 
-returns-5 : tie.Need-returns-5
-unfolding symbolLimit size
-returns-5 c = two-runs (c .before .before .before .before .before .before .before .before .before .before .before .before .before .before .before .before .args .symbols .now) (c .before .before .before .before .before .before .before .before .before .before .before .before .before .before .before .before .args .out .now) (c .before .before .before .before .before .before .before .before .before .before .before .before .before .before .before .before .args .space .now) (c .before .before .before .before .before .before .before .before .before .before .before .before .if1 .left) (c .before .before .before .before .before .before .before .before .before .before .before .if2 .left) (c .before .before .before .before .before .before .before .before .before .before .if3 .left) (c .before .before .before .before .before .before .before .before .before .alphabet-size .ensures) (c .before .before .before .before .before .before .before .before .if4 .taken) (c .before .before .before .before .before .before .before .if5 .left) (c .before .before .before .before .two-valued .ensures .0) (c .before .before .before .before .two-valued .ensures .1) (c .before .before .before .before .two-valued .ensures .2)
+refuses : tie.Need-returns
+refuses c =
+    let n = c .before .before in
+    literal-refused (symbols n) (out n) (space n) (n .literal-refusal .ensures) (c .before .if1 .taken) (c .refused-as .ensures)
 
-refused-as-requires-5 : tie.Need-refused-as-requires-5
-refused-as-requires-5 c κs = search needs
+slice-reshare-prefix-samples : tie.Need-slice-reshare-prefix-samples
+slice-reshare-prefix-samples c = omega (arith, ran (c .before .before) .room)
 
-returns-6 : tie.Need-returns-6
-unfolding symbolLimit storeSize
-returns-6 c = many-short (c .before .before .before .before .before .before .before .before .before .before .args .symbols .now) (c .before .before .before .before .before .before .before .before .before .before .args .out .now) (c .before .before .before .before .before .before .before .before .before .before .args .space .now) (c .before .before .before .before .before .before .if1 .left) (c .before .before .before .before .before .if2 .left) (c .before .before .before .before .if3 .left) (c .before .before .before .alphabet-size .ensures) (c .before .before .if4 .left) (c .refused-as5 .ensures) (c .before .if6 .taken)
+slice-aggregate-samples : tie.Need-slice-aggregate-samples
+slice-aggregate-samples c = taken-length (translation (translated c))
 
-many-valued-requires : tie.Need-many-valued-requires
-unfolding symbolLimit storeSize
-many-valued-requires c κs = (c .before .before .before .before .before .before .if2 .left, c .before .before .before .before .before .before .before .if1 .left, c .before .before .before .before .before .if3 .left, c .before .before .if6 .left)
+bits-estimate-requires : tie.Need-bits-estimate-requires
+bits-estimate-requires c κs =
+    let two = c .before in
+    let v = translated (two .before .before) in
+    (ran v .many, source-is (translation v), rw (two-needed (symbols (entry v)) (few two)) at (ran v .work))
 
-same-length-3 : tie.Need-same-length-3
-same-length-3 c = search needs
+runs-bits : tie.Need-returns-2
+runs-bits c =
+    let e = c .before .before in
+    let two = e .before .before in
+    let v = translated (two .before .before) in
+    let n = entry v in
+    let bits = bits-are (translation v) (bytes n) (few two) in
+    two-ran (symbols n) (out n) (space n) (n .literal-refusal .ensures) (done v) (written-is (translation v)) (few two)
+    (e .bits-estimate .ensures .0 ∙ ap bitsEstimate bits)
+    (e .bits-estimate .ensures .1 ∙ ap (λ (b : List ℕ). final levels cap b (space n)) bits)
 
-same-length-4 : tie.Need-same-length-4
-same-length-4 c = search needs
+store-estimate-requires : tie.Need-store-estimate-requires
+store-estimate-requires c κs =
+    let many = c .before in
+    let v = translated (many .before .before) in
+    let t = ran v in
+    let l = taken-length (translation v) in
+    (rw l at (t .many), rw l at (t .fits), rw (many-needed (symbols (entry v)) (more many)) at (t .work))
 
-returns-7 : tie.Need-returns-7
-unfolding symbolLimit storeSize
-returns-7 c = many-runs (c .before .before .before .before .before .before .before .before .before .before .before .before .before .before .before .before .args .symbols .now) (c .before .before .before .before .before .before .before .before .before .before .before .before .before .before .before .before .args .out .now) (c .before .before .before .before .before .before .before .before .before .before .before .before .before .before .before .before .args .space .now) (c .before .before .before .before .before .before .before .before .before .before .before .before .if1 .left) (c .before .before .before .before .before .before .before .before .before .before .before .if2 .left) (c .before .before .before .before .before .before .before .before .before .before .if3 .left) (c .before .before .before .before .before .before .before .before .before .alphabet-size .ensures) (c .before .before .before .before .before .before .before .before .if4 .left) (c .before .before .before .before .before .before .before .if6 .left) (c .before .before .before .before .many-valued .ensures .0) (c .before .before .before .before .many-valued .ensures .1) (c .before .before .before .before .many-valued .ensures .2)
+runs-symbols : tie.Need-returns-3
+runs-symbols c =
+    let e = c .before .before in
+    let many = e .before .before in
+    let v = translated (many .before .before) in
+    let n = entry v in
+    many-ran (symbols n) (out n) (space n) (n .literal-refusal .ensures) (done v) (written-is (translation v)) (more many)
+    (e .store-estimate .ensures .0
+    ∙ ap (λ (s : List ℕ). storeEstimate s (v .value-sorted-alphabet .result .size)) (taken-is (translation v))
+    ∙ ap (storeEstimate (sorted (symbols n))) (size-is (translation v)))
+    (e .store-estimate .ensures .1)
 
 pub multi-mmc-literal-spec : {M : Type 1} → statement M
 multi-mmc-literal-spec =
     tie.close
     (tie.spec
-    refused-as-requires
-    returns
-    refused-as-requires-2
-    returns-2
-    refused-as-requires-3
-    returns-3
-    alphabet-size-requires
-    refused-as-requires-4
-    returns-4
-    two-valued-requires
-    same-length
-    same-length-2
-    returns-5
-    refused-as-requires-5
-    returns-6
-    many-valued-requires
-    same-length-3
-    same-length-4
-    returns-7)
+    (λ c κs. search needs)
+    (λ c κs. search needs)
+    (λ c. search needs)
+    (λ c. search needs)
+    refuses
+    (λ c κs. search needs)
+    slice-reshare-prefix-samples
+    slice-aggregate-samples
+    bits-estimate-requires
+    (λ c. search needs)
+    (λ c. search needs)
+    runs-bits
+    store-estimate-requires
+    (λ c. search needs)
+    (λ c. search needs)
+    runs-symbols)

@@ -31,7 +31,8 @@ half n t h e = omega arith
 times-power-returns : (t : ℕ) → times-power-lts.Need-returns (times-power-below t, times-power.Post) (times-power-at t) times-power.Post
 times-power-returns t c = let a = c .before .args in sym (ap (timesPower (a .y) (a .x)) (c .if1 .taken) ∙ times-none (a .y) (a .x))
 
-times-power-times-power-requires : (t : ℕ) → times-power-lts.Need-times-power-requires (times-power-below t, times-power.Post) (times-power-at t) times-power.Post
+times-power-times-power-requires : (t : ℕ) →
+    times-power-lts.Need-times-power-requires (times-power-below t, times-power.Post) (times-power-at t) times-power.Post
 times-power-times-power-requires t c κs = (half (c .before .before .args .n) t (c .before .if1 .left) (c .before .before .pre .0), tt)
 
 times-power-returns-2 : (t : ℕ) → times-power-lts.Need-returns-2 (times-power-below t, times-power.Post) (times-power-at t) times-power.Post
@@ -39,7 +40,8 @@ times-power-returns-2 t c =
     let a = c .before .before .before .args in
     c .times-power .ensures ∙ sym (times-odd (a .y) (a .x) (a .n) (above (a .n) (c .before .before .if1 .left)) (c .before .if2 .taken))
 
-times-power-times-power-requires-2 : (t : ℕ) → times-power-lts.Need-times-power-requires-2 (times-power-below t, times-power.Post) (times-power-at t) times-power.Post
+times-power-times-power-requires-2 : (t : ℕ) →
+    times-power-lts.Need-times-power-requires-2 (times-power-below t, times-power.Post) (times-power-at t) times-power.Post
 times-power-times-power-requires-2 t c κs = (half (c .before .before .args .n) t (c .before .if1 .left) (c .before .before .pre .0), tt)
 
 times-power-returns-3 : (t : ℕ) → times-power-lts.Need-returns-3 (times-power-below t, times-power.Post) (times-power-at t) times-power.Post
@@ -50,5 +52,6 @@ times-power-returns-3 t c =
 pub +times-power-spec : {M : Type 1} → statement M
 +times-power-spec =
     close μ-times-power
-    λ t. times-power-lts.spec (times-power-below t, times-power.Post) (times-power-at t) times-power.Post (times-power-returns t) (times-power-times-power-requires t) (times-power-returns-2 t)
+    λ t. times-power-lts.spec (times-power-below t, times-power.Post) (times-power-at t) times-power.Post (times-power-returns t)
+    (times-power-times-power-requires t) (times-power-returns-2 t)
     (times-power-times-power-requires-2 t) (times-power-returns-3 t)

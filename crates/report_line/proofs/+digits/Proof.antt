@@ -34,7 +34,9 @@ digits-returns : (t : ℕ) → digits-lts.Need-returns (
   glyph-reads.Asked,
   glyph-reads.Learnt,
 ) (digits-at t) digits.Post
-digits-returns t c = ap (sets (c .before .before .args .out .now) (c .before .before .args .at)) (sym (no-digits (c .before .before .args .base) (c .before .before .args .k) (c .before .before .args .n) (c .if1 .taken)))
+digits-returns t c =
+    ap (sets (c .before .before .args .out .now) (c .before .before .args .at))
+    (sym (no-digits (c .before .before .args .base) (c .before .before .args .k) (c .before .before .args .n) (c .if1 .taken)))
 
 digits-div-digits : (t : ℕ) → digits-lts.Need-div-digits (
   digits-below t,

@@ -36,7 +36,8 @@ returns c =
     let p = c .before .before .before .before .places in
     let a = c .before .before .before .before .before .before .args in
     let e : length (decimal (a .n)) ≡ p .result = decimal-length (a .n) ∙ sym (p .ensures .0) in
-    behind (a .at) (a .out .now) (decimal (a .n)) (d .last .1 .1 .1 .0) (a .after) 20 e (d .ensures ∙ stored-decimal (a .out .now) (a .at) (a .n) (p .result) (p .ensures .0)) (omega arith)
+    behind (a .at) (a .out .now) (decimal (a .n)) (d .last .1 .1 .1 .0) (a .after) 20 e
+    (d .ensures ∙ stored-decimal (a .out .now) (a .at) (a .n) (p .result) (p .ensures .0)) (omega arith)
 
 pub decimal-spec : {M : Type 1} → statement M
 decimal-spec =

@@ -34,7 +34,8 @@ returns c =
     let d2 = k2 .pattern2 in
     let d3 = k3 .pattern3 in
     let d4 = k4 .pattern4 in
-    let w1 : Wrote (s .out .now) (s .at) (double (e .«p_global») space) (d1 .last .1 .0) (d1 .result) = record { stored = d1 .ensures .1; behind = d1 .ensures .0 } in
+    let w1 : Wrote (s .out .now) (s .at) (double (e .«p_global») space) (d1 .last .1 .0) (d1 .result) =
+    record { stored = d1 .ensures .1; behind = d1 .ensures .0 } in
     let w2 = more (double (e .«p_global_prime») space) (d2 .last .1 .0) (d2 .result) w1 (d2 .ensures .0) (d2 .ensures .1) in
     let w3 = more (double (e .«p_local») space) (d3 .last .1 .0) (d3 .result) w2 (d3 .ensures .0) (d3 .ensures .1) in
     let w4 = more (double (e .«min_entropy») newline) (d4 .last .1 .0) (d4 .result) w3 (d4 .ensures .0) (d4 .ensures .1) in

@@ -30,7 +30,9 @@ returns : tie.Need-returns
 returns c =
     let d = c .before .before .digits in
     let a = c .before .before .before .before .before .before .args in
-    let p = d .ensures ∙ stored-pattern (a .out .now) (a .at) (a .x) (c .before .before .before .before .bits-of .result) (c .before .before .before .before .bits-of .ensures) in
+    let p = d .ensures
+    ∙ stored-pattern (a .out .now) (a .at) (a .x) (c .before .before .before .before .bits-of .result)
+    (c .before .before .before .before .bits-of .ensures) in
     let b = behind (a .at) (a .out .now) (pattern (a .x)) (d .last .1 .1 .1 .0) (a .after) 16 (pattern-length (a .x)) p (omega arith) in
     (omega (arith, b .0), b .1, omega arith)
 

@@ -1,4 +1,5 @@
--- `sqrt::digits` meets its contract. The loop's invariant is `Taken`: m * 4 ^ i is the square of q, with the rest rem, and then the digits that are left. The measure is the turns left.
+-- `sqrt::digits` meets its contract. The loop's invariant is `Taken`: m * 4 ^ i is the square of q, with the rest rem, and then the digits that are
+-- left. The measure is the turns left.
 -- Assumes nothing.
 mod Steps
 use Prim.Native.Nat.{_-_}
@@ -60,7 +61,8 @@ loop-again c =
     (c .if1 .came)
 
 returns : tie.Need-returns Inv-loop μ-loop
-returns c = finish (c .before .before .args .m) (c .before .loop .w) (c .before .loop .q) (c .before .loop .rem) (c .before .loop .i) (c .before .loop .inv) (c .loop-test .left)
+returns c = finish (c .before .before .args .m) (c .before .loop .w) (c .before .loop .q) (c .before .loop .rem) (c .before .loop .i)
+    (c .before .loop .inv) (c .loop-test .left)
 
 pub digits-spec : {M : Type 1} → statement M
 digits-spec =

@@ -4,7 +4,7 @@ use mathlib.Core.Path.{sym, ap, _∙_, subst}
 use Prim.Native.Nat.{ℕ, _+_, _*_, _/_, _%_, _^_}
 use native.Mathlib.Omega.{arith}
 use borrow.Author.Needs.{needs}
-use Rattle.sqrt.specs.Steps.{Rooted}
+use Rattle.sqrt.specs.inner.Steps.{Rooted}
 use Rattle.sqrt.proofs.Powers.{low-side, high-side}
 use Rattle.sqrt.proofs.Shift.{Shifted, shifted-fraction}
 use Rattle.sqrt.proofs.Patterns.{units-low, units-high}

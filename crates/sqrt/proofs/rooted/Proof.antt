@@ -4,7 +4,7 @@ use mathlib.Core.Path.{sym, subst}
 use Prim.Native.Nat.{ℕ, _+_, _-_, _*_, _/_, _%_, _^_}
 use native.Mathlib.Omega.{arith}
 use borrow.Author.Needs.{needs}
-use Rattle.sqrt.specs.Steps.{Rooted}
+use Rattle.sqrt.specs.inner.Steps.{Rooted}
 use Rattle.sqrt.proofs.Powers.{one-or-two, split-pow}
 use Rattle.sqrt.proofs.Rounded.{sig-in, rooted}
 use Rattle.sqrt.proofs.rooted.Statement.{statement}
@@ -41,7 +41,8 @@ returns c =
     let h = a .e / 2 in
     let w = one-or-two (a .q) (a .e) in
     subst (λ (n : ℕ). Rooted n ((h - 26) * 2 ^ 52 + c .nearest .result)) (split-pow (a .q) (a .e))
-    (subst (λ (x : ℕ). Rooted (m * 4 ^ h) ((h - 26) * 2 ^ 52 + x)) (sym (c .nearest .ensures)) (rooted m h (omega arith) (omega arith) (omega arith) (omega arith)))
+    (subst (λ (x : ℕ). Rooted (m * 4 ^ h) ((h - 26) * 2 ^ 52 + x)) (sym (c .nearest .ensures))
+    (rooted m h (omega arith) (omega arith) (omega arith) (omega arith)))
 
 pub rooted-spec : {M : Type 1} → statement M
 rooted-spec =

@@ -41,7 +41,8 @@ returns-4 c =
 above : (c : tie.Else4) → Between (toBits binary64 (c .before .before .before .before .args .x))
 above c =
     let k = c .before .before .before .before in
-    positive-pattern (k .args .x) (ofBits binary64 0) (held k) naught-is (c .before .before .before .if1 .left) (c .before .before .if2 .left) (c .before .if3 .left) (c .if4 .left)
+    positive-pattern (k .args .x) (ofBits binary64 0) (held k) naught-is (c .before .before .before .if1 .left) (c .before .before .if2 .left)
+    (c .before .if3 .left) (c .if4 .left)
 
 positive-requires : tie.Need-positive-requires
 positive-requires c κs = above c
@@ -54,7 +55,8 @@ returns-5 c =
     let k = c .before .before .before .before .before in
     let b = toBits binary64 (k .args .x) in
     let w = above (c .before) in
-    made _ (c .positive .result) (c .positive .ensures) ∙ sym (root-of-pattern b (w .0) (w .1)) ∙ ap (sqrtOf binary64) (ofBits-toBits binary64 (k .args .x) (held k))
+    made _ (c .positive .result) (c .positive .ensures) ∙ sym (root-of-pattern b (w .0) (w .1))
+    ∙ ap (sqrtOf binary64) (ofBits-toBits binary64 (k .args .x) (held k))
 
 pub sqrt-spec : {M : Type 1} → statement M
 sqrt-spec =

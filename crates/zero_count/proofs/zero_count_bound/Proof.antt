@@ -1,4 +1,5 @@
--- `zero_count::zero_count_bound` meets its contract: the digits found are the root's, and 1 less the root is as many parts of 2 ^ 52 as the root leaves. Assumes nothing.
+-- `zero_count::zero_count_bound` meets its contract: the digits found are the root's, and 1 less the root is as many parts of 2 ^ 52 as the root
+-- leaves. Assumes nothing.
 use borrow.Author.Needs.{needs}
 use mathlib.Core.Path.{sym, ap, _∙_}
 use Prim.Native.Nat.{ℕ, _-_, _^_}
@@ -32,7 +33,8 @@ part-requires c κs = search needs
 returns-2 : tie.Need-returns-2
 returns-2 c =
     let n = c .before .before .before .before .before .args .n in
-    c .part .ensures ∙ ap (λ (m : ℕ). fraction 52 (2 ^ 52 - m)) (c .before .narrow .ensures) ∙ sym (bound-of-some n (c .before .before .before .before .if1 .left))
+    c .part .ensures ∙ ap (λ (m : ℕ). fraction 52 (2 ^ 52 - m)) (c .before .narrow .ensures)
+    ∙ sym (bound-of-some n (c .before .before .before .before .if1 .left))
 
 pub zero-count-bound-spec : {M : Type 1} → statement M
 zero-count-bound-spec = tie.close (tie.spec returns guess-requires enclose-requires narrow-requires sub-part part-requires returns-2)

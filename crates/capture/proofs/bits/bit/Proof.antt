@@ -18,83 +18,62 @@ at-one {v} {n} {i} e h = omega (arith, ap (λ (x : ℕ). n * x) e)
 bit-done : {a b : ℕ} → a ≡ b → _≡_ {A = BitRead} (record { number = done; place = 0; bit = a }) (record { number = done; place = 0; bit = b })
 bit-done e = cc
 
-refused-bit-requires : tie.Need-refused-bit-requires
-refused-bit-requires c κs = search needs
+-- the entry; the capture is not too long; the bit is not past its end
+abbrev start : tie.Else1 → tie.Start
+start c = c .before .before
+
+abbrev short : tie.After-width-of → tie.Else1
+short c = c .before
+
+abbrev within : tie.After-is-wide → tie.Else2
+within c = c .before
 
 returns : tie.Need-returns
 unfolding symbolLimit
 returns c = c .refused-bit .ensures ∙ sym (read-too-long _ _ _ (c .before .if1 .taken))
 
-width-of-requires : tie.Need-width-of-requires
-width-of-requires c κs = search needs
-
-cast-per : tie.Need-cast-per
-cast-per c = search needs
-
 mul-if2 : tie.Need-mul-if2
 unfolding symbolLimit
-mul-if2 c = omega (arith, bits-small _ _ (c .before .if1 .left) (c .width-of .ensures))
-
-refused-bit-requires-2 : tie.Need-refused-bit-requires-2
-refused-bit-requires-2 c κs = search needs
+mul-if2 c = omega (arith, bits-small _ _ (short c .if1 .left) (c .width-of .ensures))
 
 returns-2 : tie.Need-returns-2
 unfolding symbolLimit
 returns-2 c =
-    c .refused-bit2 .ensures
-    ∙ sym (read-past-end _ _ _ (c .before .before .before .if1 .left) (c .before .before .width-of .ensures) (c .before .if2 .taken))
+    let clamped = c .before .before in
+    c .refused-bit2 .ensures ∙ sym (read-past-end _ _ _ (short clamped .if1 .left) (clamped .width-of .ensures) (c .before .if2 .taken))
 
 is-wide-requires : tie.Need-is-wide-requires
 is-wide-requires c κs = λ e. at-one e (c .if2 .left)
 
-refused-bit-requires-3 : tie.Need-refused-bit-requires-3
-refused-bit-requires-3 c κs = search needs
-
 returns-3 : tie.Need-returns-3
 unfolding symbolLimit
 returns-3 c =
+    let seen = c .before .before in
+    let clamped = within seen .before in
     c .refused-bit3 .ensures
     ∙ sym
-    (read-too-wide _ _ _
-    (c .before .before .before .before .before .if1 .left)
-    (c .before .before .before .before .width-of .ensures)
-    (c .before .before .before .if2 .left)
-    (sym (c .before .before .is-wide .ensures) ∙ c .before .if3 .taken))
+    (read-too-wide _ _ _ (short clamped .if1 .left) (clamped .width-of .ensures) (within seen .if2 .left)
+    (sym (seen .is-wide .ensures) ∙ c .before .if3 .taken))
 
 bit-of-requires : tie.Need-bit-of-requires
 bit-of-requires c κs =
-    let e = c .before .before .before .width-of .ensures in
-    let w = c .before .before .before .before .before .before .args .width in
-    (omega (arith, e, width-least w), omega (arith, e, width-most w), c .before .before .if2 .left)
-
-cast-t12 : tie.Need-cast-t12
-cast-t12 c = search needs
+    let clamped = within (c .before) .before in
+    let e = clamped .width-of .ensures in
+    let w = start (short clamped) .args .width in
+    (omega (arith, e, width-least w), omega (arith, e, width-most w), within (c .before) .if2 .left)
 
 returns-4 : tie.Need-returns-4
 unfolding symbolLimit
 returns-4 c =
+    let seen = c .before .before in
+    let clamped = within seen .before in
     bit-done (c .bit-of .ensures)
     ∙ sym
-    (read-done _ _ _
-    (c .before .before .before .before .before .if1 .left)
-    (c .before .before .before .before .width-of .ensures)
-    (c .before .before .before .if2 .left)
-    (sym (c .before .before .is-wide .ensures) ∙ c .before .if3 .left))
+    (read-done _ _ _ (short clamped .if1 .left) (clamped .width-of .ensures) (within seen .if2 .left)
+    (sym (seen .is-wide .ensures) ∙ c .before .if3 .left))
 
 pub bit-spec : {M : Type 1} → statement M
 bit-spec =
     tie.close
-    (tie.spec
-    refused-bit-requires
-    returns
-    width-of-requires
-    cast-per
-    mul-if2
-    refused-bit-requires-2
-    returns-2
-    is-wide-requires
-    refused-bit-requires-3
-    returns-3
-    bit-of-requires
-    cast-t12
-    returns-4)
+    (tie.spec (λ c κs. search needs) returns (λ c κs. search needs) (λ c. search needs) mul-if2 (λ c κs. search needs) returns-2 is-wide-requires
+    (λ c κs. search needs) returns-3 bit-of-requires (λ c. search needs) returns-4)

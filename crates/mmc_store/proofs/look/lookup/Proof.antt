@@ -2,8 +2,8 @@
 -- a best by 256 is its symbol. Assumes nothing.
 use mathlib.Core.Path.{ap, _∙_}
 use native.Mathlib.Omega.{arith}
-use Rattle.mmc_store.specs.Answers.{contextOf}
-use Rattle.mmc_store.proofs.Looking.{answers-absent, answers-present}
+use Rattle.mmc_store.specs.inner.Answers.{contextOf}
+use Rattle.mmc_store.proofs.Saying.{answers-absent, answers-present}
 use Rattle.mmc_store.proofs.look.lookup.Statement.{statement}
 use Rattle.mmc_store.proofs.look.lookup.Tie as tie
 

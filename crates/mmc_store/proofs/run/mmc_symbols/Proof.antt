@@ -2,12 +2,13 @@
 -- as many as are lent to sixteen levels, are cleared, and the tables are among them. Assumes nothing.
 use mathlib.Core.Path.{refl}
 use native.Mathlib.Omega.{arith}
+use native.Mathlib.Nat.{le-trans}
+use lib.Dec.{lit≤}
 use denote.Ref.{now}
-use lib.ListN.{length}
 use Rattle.mmc_bits.specs.Levels.{levels}
-use Rattle.mmc_store.specs.Places.{store}
+use Rattle.mmc_store.specs.inner.Places.{store}
 use Rattle.mmc_store.specs.Space.{size}
-use Rattle.mmc_store.proofs.Running.{Lent, limit-fits, lent-fits, lent-long, clear-fits, final-is}
+use Rattle.mmc_store.proofs.Running.{Lent, lent-fits, lent-long, clear-fits, final-is}
 use Rattle.mmc_store.proofs.run.mmc_symbols.Statement.{statement}
 use Rattle.mmc_store.proofs.run.mmc_symbols.Tie as tie
 
@@ -21,12 +22,12 @@ part-run-end c = lent-fits (lends (c .before .before))
 run-requires : tie.Need-run-requires
 run-requires c κs =
     let start = c .before .before .before in
-    (limit-fits (length (now (start .args .s))) (start .pre .0), lent-long (lends start))
+    (start .pre .0, lent-long (lends start))
 
 part-clear-end : tie.Need-part-clear-end
 part-clear-end c =
     let past = c .before .before in
-    clear-fits (lends (past .before .before .before .before)) (past .run .last .1 .0) (past .run .kept .1 .0)
+    le-trans (lit≤ tt) (clear-fits (lends (past .before .before .before .before)) (past .run .last .1 .0) (past .run .kept .1 .0))
 
 returns : tie.Need-returns
 returns c =

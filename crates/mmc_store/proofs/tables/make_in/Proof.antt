@@ -1,7 +1,7 @@
 -- The numbers that are lent are those of table t: the entry is found or made there, and every other table stays. Assumes nothing.
 use mathlib.Core.Path.{sym, ap, _∙_}
-use Rattle.table.specs.Table.{entryOf}
-use Rattle.mmc_store.specs.Places.{tablesMost}
+use Rattle.table.specs.inner.Table.{entryOf}
+use Rattle.mmc_store.specs.inner.Places.{tablesMost}
 use Rattle.mmc_store.proofs.Parts.{lent-is, back}
 use native.Mathlib.Omega.{arith}
 use Rattle.mmc_store.proofs.tables.make_in.Statement.{statement}
@@ -10,7 +10,7 @@ use Rattle.mmc_store.proofs.tables.make_in.Tie as tie
 make-requires : tie.Need-make-requires
 make-requires c κs =
     let start = c .before .before in
-    rw (lent-is (start .args .t) (start .args .space .now)) (start .pre .2, start .pre .3, start .pre .4)
+    rw (lent-is (start .args .t) (start .args .space .now)) (start .pre .2, start .pre .3)
 
 returns : tie.Need-returns
 returns c =

@@ -1,5 +1,5 @@
 -- The numbers that are lent are those of table t: its value is put there, and every other table stays. Assumes nothing.
-use Rattle.mmc_store.specs.Places.{tablesMost}
+use Rattle.mmc_store.specs.inner.Places.{tablesMost}
 use Rattle.mmc_store.proofs.Parts.{lent-is, back}
 use native.Mathlib.Omega.{arith}
 use Rattle.mmc_store.proofs.tables.put_in.Statement.{statement}

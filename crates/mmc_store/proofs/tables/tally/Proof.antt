@@ -1,4 +1,5 @@
 -- The pair is counted in its table, and then the best of its context raised in its own, which the first left alone. Assumes nothing.
+use Rattle.mmc_store.proofs.Small.{limit-is}
 use Rattle.mmc_store.proofs.Parts.{tallies}
 use native.Mathlib.Omega.{arith}
 use Rattle.mmc_store.proofs.tables.tally.Statement.{statement}
@@ -15,5 +16,6 @@ returns c =
 pub tally-spec : {M : Type 1} → statement M
 tally-spec =
     tie.close
-    (tie.spec (λ c. omega arith) (λ c. omega arith) (λ c κs. omega arith) (λ c κs. omega arith) (λ c. omega arith) (λ c. omega arith)
-    (λ c. omega arith) (λ c κs. omega arith) (λ c κs. omega arith) (λ c. omega arith) returns)
+    (tie.spec (λ c. omega arith) (λ c. omega (arith, limit-is)) (λ c κs. omega (arith, limit-is)) (λ c κs. omega arith)
+    (λ c. omega (arith, limit-is)) (λ c. omega (arith, limit-is)) (λ c. omega (arith, limit-is)) (λ c κs. omega arith)
+    (λ c κs. omega (arith, limit-is)) (λ c. omega arith) returns)

@@ -25,7 +25,18 @@ min-entropy-requires c κs = search needs
 
 returns : tie.Need-returns
 unfolding estimatedOf estimate largest
-returns c = cc (c .before .before .before .before .before .p-global .ensures, c .before .before .before .before .p-global-prime .ensures, c .before .before .before .floor-of .ensures, c .before .before .p-local .ensures .0, c .before .before .p-local .ensures .1, c .before .larger-of .ensures, c .min-entropy .ensures)
+returns c =
+    let l = c .before .before in
+    let f = l .before in
+    rw (
+      c .min-entropy .ensures,
+      c .before .larger-of .ensures,
+      l .p-local .ensures .1,
+      l .p-local .ensures .0,
+      f .floor-of .ensures,
+      f .before .p-global-prime .ensures,
+      f .before .before .p-global .ensures,
+    )
 
 pub estimated-spec : {M : Type 1} → statement M
 estimated-spec =

@@ -1,7 +1,7 @@
 -- `prediction::estimate::p_global` meets its contract. It is the definition's quotient. Assumes nothing.
 use Rattle.prediction.specs.Estimate.{pGlobal}
 use Rattle.rounding.proofs.Exact.{whole-fits}
-use Rattle.prediction.proofs.Whole.{limit-small}
+use Rattle.counts.proofs.Whole.{limit-small}
 use native.Mathlib.Omega.{arith}
 use lib.Ieee.{ofBits}
 use borrow.Author.Tests.{eq-eqb, ne-eqb}

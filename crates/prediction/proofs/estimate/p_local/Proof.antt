@@ -14,14 +14,21 @@ solve-requires c κs = search needs
 
 returns : tie.Need-returns
 unfolding pLocal roundsFor
-returns c = (simp (sym (c .before .before .can-raise .ensures) ∙ c .before .if1 .taken) (ap (λ (s : Solved). s .rounds) (c .solve .ensures)), simp (sym (c .before .before .can-raise .ensures) ∙ c .before .if1 .taken) (ap (λ (s : Solved). s .value) (c .solve .ensures)))
+returns c =
+    let t = c .before in
+    let raise = sym (t .before .can-raise .ensures) ∙ t .if1 .taken in
+    (simp raise (ap (λ (s : Solved). s .rounds) (c .solve .ensures)), simp raise (ap (λ (s : Solved). s .value) (c .solve .ensures)))
 
 refused-solved-requires : tie.Need-refused-solved-requires
 refused-solved-requires c κs = search needs
 
 returns-2 : tie.Need-returns-2
 unfolding pLocal roundsFor
-returns-2 c = (simp (sym (c .before .before .can-raise .ensures) ∙ c .before .if1 .left) (ap (λ (s : Solved). s .rounds) (c .refused-solved .ensures)), simp (sym (c .before .before .can-raise .ensures) ∙ c .before .if1 .left) (ap (λ (s : Solved). s .value) (c .refused-solved .ensures)))
+returns-2 c =
+    let e = c .before in
+    let r = c .refused-solved .ensures in
+    let stay = sym (e .before .can-raise .ensures) ∙ e .if1 .left in
+    (simp stay (ap (λ (s : Solved). s .rounds) r), simp stay (ap (λ (s : Solved). s .value) r))
 
 pub p-local-spec : {M : Type 1} → statement M
 p-local-spec =

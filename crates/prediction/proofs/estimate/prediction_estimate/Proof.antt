@@ -2,7 +2,7 @@
 use mathlib.Core.Path.{sym, _∙_}
 use Rattle.prediction.specs.Estimate.{estimateOf}
 use native.Mathlib.Omega.{arith}
-use Rattle.prediction.proofs.Refusals.{counts-can-be}
+use Rattle.counts.proofs.Refusals.{counts-can-be}
 use borrow.Author.Needs.{needs}
 use Rattle.prediction.proofs.estimate.prediction_estimate.Statement.{statement}
 use Rattle.prediction.proofs.estimate.prediction_estimate.Tie as tie
@@ -18,7 +18,9 @@ unfolding estimateOf
 returns c = simp (sym (c .before .before .impossible-counts .ensures) ∙ c .before .if1 .taken) (c .refused-as .ensures)
 
 estimated-requires : tie.Need-estimated-requires
-estimated-requires c κs = let p = counts-can-be _ _ _ _ (sym (c .before .impossible-counts .ensures) ∙ c .if1 .left) in (p .hits, omega (arith, p .hits, p .run-hits), p .few, p .most)
+estimated-requires c κs =
+    let p = counts-can-be _ _ _ _ (sym (c .before .impossible-counts .ensures) ∙ c .if1 .left) in
+    (p .hits, omega (arith, p .hits, p .run-hits), p .few, p .most)
 
 returns-2 : tie.Need-returns-2
 unfolding estimateOf

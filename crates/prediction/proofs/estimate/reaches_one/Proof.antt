@@ -1,9 +1,10 @@
--- `prediction::estimate::reaches_one` meets its contract. What passes both tests is `bound-is-one`, with the code's number for the part of 1 - p. Assumes nothing.
+-- `prediction::estimate::reaches_one` meets its contract. What passes both tests is `bound-is-one`, with the code's number for
+-- the part of 1 - p. Assumes nothing.
 use mathlib.Core.Path.{sym, subst}
 use mathlib.Core.Bool.{false≢true}
 use lib.Dec.{T}
 use lib.Ieee.{ofBits, round, le}
-use Rattle.prediction.specs.Doubles.{z995}
+use Rattle.counts.specs.Doubles.{z995}
 use Rattle.prediction.proofs.Reaching.{bound-is-one}
 use Rattle.prediction.proofs.estimate.reaches_one.Statement.{statement}
 use Rattle.prediction.proofs.estimate.reaches_one.Tie as tie

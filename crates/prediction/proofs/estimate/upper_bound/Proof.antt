@@ -1,11 +1,12 @@
--- `prediction::estimate::upper_bound` meets its contract. It is the definition's steps, with z the double nearest to 2.575829303548901, and 1 where they surely come to it. Assumes nothing.
+-- `prediction::estimate::upper_bound` meets its contract. It is the definition's steps, with z the double nearest to
+-- 2.575829303548901, and 1 where they surely come to it. Assumes nothing.
 use mathlib.Core.Path.{sym, _∙_}
 use native.Mathlib.Omega.{arith}
 use lib.Ieee.{ofBits, round}
-use Rattle.prediction.specs.Doubles.{z995}
+use Rattle.counts.specs.Doubles.{z995}
 use Rattle.prediction.specs.Estimate.{upperBound}
 use Rattle.rounding.proofs.Exact.{whole-fits}
-use Rattle.prediction.proofs.Whole.{limit-small}
+use Rattle.counts.proofs.Whole.{limit-small}
 use borrow.Author.Needs.{needs}
 use Rattle.prediction.proofs.estimate.upper_bound.Statement.{statement}
 use Rattle.prediction.proofs.estimate.upper_bound.Tie as tie

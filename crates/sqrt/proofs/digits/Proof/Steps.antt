@@ -5,7 +5,8 @@ use native.Mathlib.Nat.{mul-comm, mul-left-comm, pow-succ'}
 use native.Mathlib.Numerals.{add-one}
 use native.Mathlib.Omega.{arith}
 use lib.Pow.{pow-mono}
-use Rattle.sqrt.specs.Root.{root, IsRoot}
+use Rattle.sqrt.specs.inner.Steps.{IsRoot}
+use Rattle.sqrt.specs.Root.{root}
 use Rattle.sqrt.proofs.Roots.{root-only, sq-suc, sq-dbl}
 
 -- m * 4 ^ i is the digits taken, q * q + rem, and then the digits w that are left, of 54 places
@@ -27,10 +28,12 @@ room i h = pow-mono {i = i + 1} {j = 54} (omega arith)
 twice : (q : ℕ) → q * 2 * (q * 2) ≡ 4 * (q * q)
 twice q = ap (λ (x : ℕ). x * x) (mul-comm q 2) ∙ sq-dbl q
 
-pub no-digit : (m w q rem i : ℕ) → Taken m w q rem i → i < 54 → rem * 4 + w / 2 ^ 52 ≤ q * 2 * 2 → Taken m (w % 2 ^ 52 * 4) (q * 2) (rem * 4 + w / 2 ^ 52) (i + 1)
+pub no-digit : (m w q rem i : ℕ) → Taken m w q rem i → i < 54 → rem * 4 + w / 2 ^ 52 ≤ q * 2 * 2 →
+    Taken m (w % 2 ^ 52 * 4) (q * 2) (rem * 4 + w / 2 ^ 52) (i + 1)
 no-digit m w q rem i t h l = omega (arith, next-pow m i, next-two i, room i h, twice q)
 
-pub digit : (m w q rem i : ℕ) → Taken m w q rem i → i < 54 → q * 2 * 2 < rem * 4 + w / 2 ^ 52 → Taken m (w % 2 ^ 52 * 4) (q * 2 + 1) (rem * 4 + w / 2 ^ 52 - q * 2 * 2 - 1) (i + 1)
+pub digit : (m w q rem i : ℕ) → Taken m w q rem i → i < 54 → q * 2 * 2 < rem * 4 + w / 2 ^ 52 →
+    Taken m (w % 2 ^ 52 * 4) (q * 2 + 1) (rem * 4 + w / 2 ^ 52 - q * 2 * 2 - 1) (i + 1)
 digit m w q rem i t h l = omega (arith, next-pow m i, next-two i, room i h, twice q, sq-suc (q * 2))
 
 whole : (m w q rem : ℕ) → w < 2 ^ 54 → rem ≤ 2 * q → m * 4 ^ 54 ≡ (q * q + rem) * 2 ^ 54 + w → IsRoot (m * 2 ^ 54) q

@@ -1,4 +1,5 @@
--- `sqrt::guess::guess` meets its contract: the pattern that it makes of q is below that of the infinity, so no NaN's, and the rest asks nothing. Assumes nothing.
+-- `sqrt::guess::guess` meets its contract: the pattern that it makes of q is below that of the infinity, so no NaN's, and the rest asks nothing.
+-- Assumes nothing.
 use borrow.Author.Needs.{needs}
 use native.Mathlib.Omega.{arith}
 use Rattle.sqrt.proofs.Patterns.{finite-no-nan}

@@ -1,4 +1,5 @@
--- `sqrt::nearest::nearest` meets its contract: the tests on the excess of the guess say which of three numbers is the nearest, and else the root's digits are found one by one.
+-- `sqrt::nearest::nearest` meets its contract: the tests on the excess of the guess say which of three numbers is the nearest, and else the root's
+-- digits are found one by one.
 -- Assumes nothing.
 use mathlib.Core.Path.{_≡_}
 use mathlib.Core.Logic.{_⊎_, inl, inr}
@@ -30,7 +31,8 @@ mul-if2 c = search needs
 returns : tie.Need-returns
 returns c =
     let e = c .before .before .excess in
-    over-nearest (c .before .before .before .args .m) (c .before .before .before .args .guess - 1) (e .result) (known (e .ensures) (omega arith)) (omega arith) (omega arith)
+    over-nearest (c .before .before .before .args .m) (c .before .before .before .args .guess - 1) (e .result) (known (e .ensures) (omega arith))
+    (omega arith) (omega arith)
 
 mul-if3 : tie.Need-mul-if3
 mul-if3 c = search needs
@@ -44,7 +46,8 @@ add-result c = search needs
 returns-2 : tie.Need-returns-2
 returns-2 c =
     let e = c .before .before .before .excess in
-    over-second (c .before .before .before .before .args .m) (c .before .before .before .before .args .guess - 1) (e .result) (known (e .ensures) (omega arith)) (omega arith) (omega arith)
+    over-second (c .before .before .before .before .args .m) (c .before .before .before .before .args .guess - 1) (e .result)
+    (known (e .ensures) (omega arith)) (omega arith) (omega arith)
 
 mul-if4 : tie.Need-mul-if4
 mul-if4 c = search needs
@@ -58,7 +61,8 @@ add-result-2 c = search needs
 returns-3 : tie.Need-returns-3
 returns-3 c =
     let e = c .before .before .before .before .excess in
-    over-third (c .before .before .before .before .before .args .m) (c .before .before .before .before .before .args .guess - 1) (e .result) (known (e .ensures) (omega arith)) (omega arith) (omega arith)
+    over-third (c .before .before .before .before .before .args .m) (c .before .before .before .before .before .args .guess - 1) (e .result)
+    (known (e .ensures) (omega arith)) (omega arith) (omega arith)
 
 digits-requires : tie.Need-digits-requires
 digits-requires c κs = search needs

@@ -1,0 +1,2 @@
+pub mod LocalRange
+pub mod Rounds

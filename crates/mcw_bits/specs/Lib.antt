@@ -1,0 +1,3 @@
+pub mod Commonest
+pub mod Mcw
+pub mod inner

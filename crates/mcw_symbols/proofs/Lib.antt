@@ -1,0 +1,4 @@
+pub mod Latest
+pub mod Keys
+pub mod Sliding
+pub mod Heard

@@ -1,0 +1,5 @@
+pub mod Words
+pub mod Ways
+pub mod Answers
+pub mod Places
+pub mod Tally
