@@ -9,9 +9,9 @@ returns : tie.Need-returns
 returns c =
     let raised = c .before .before .put-in2 in
     let larger = c .before .before .before .larger in
-    let old = c .before .before .before .before .before .value-in in
-    let counted = c .before .before .before .before .before .before .before .before .before .put-in in
-    tallies _ _ _ _ _ _ _ _ (counted .ensures) _ _ (old .ensures .0) (larger .ensures) (raised .ensures)
+    let read = c .before .before .before .before .before in
+    let counted = read .before .before .before .before in
+    tallies _ _ _ _ _ _ _ _ (counted .put-in .ensures) _ _ (read .value-in .ensures .0) (larger .ensures) (raised .ensures)
 
 pub tally-spec : {M : Type 1} → statement M
 tally-spec =
