@@ -14,7 +14,7 @@ use Rattle.capture.proofs.Walking.{quotient-is, remainder-is}
 use Rattle.mmc_bits.specs.Levels.{levels, cap}
 use Rattle.mmc_bits.specs.Counters.{before, context, pair, occurs, counter}
 use Rattle.mmc_bits.specs.inner.Steps.{Bits, distinct}
-use Rattle.mmc_bits.proofs.Cases.{tested}
+use Rattle.race.proofs.Cases.{tested}
 use Rattle.capture.proofs.Bitstring.{table-length, table-at}
 use Rattle.mmc_bits.proofs.Counting.{
   occurs-same,

@@ -1,7 +1,6 @@
 -- The cases of the definitions, one law for each. Assumes nothing.
 use Prim.Native.Nat.{ℕ, zero, suc, _+_, _≤_, _<_}
 use mathlib.Core.Path.{_≡_, refl}
-use mathlib.Core.Bool.{Bool, true, false}
 use mathlib.Core.List.{List}
 use native.Mathlib.Omega.{arith}
 use native.Mathlib.Nat.{add-zero}
@@ -10,11 +9,6 @@ use borrow.Author.Tests.{lt-ltb, le-ltb, eq-eqb, ne-eqb}
 use Rattle.race.specs.inner.Held.{silence}
 use Rattle.mmc_bits.specs.Guesses.{verdict}
 use Rattle.mmc_bits.specs.inner.Steps.{spoken, heeded, bumped, kept}
-
--- a test with its equation
-pub tested : {A : Type 0} (t : Bool) → (t ≡ true → A) → (t ≡ false → A) → A
-tested true f g = f refl
-tested false f g = g refl
 
 module _ (z o : ℕ) where
   pub verdict-none : z + o ≡ 0 → silence ≡ spoken (verdict z o)

@@ -13,7 +13,7 @@ use borrow.Author.Tests.{ltb-true, ltb-false}
 use Rattle.mmc_bits.specs.Levels.{levels}
 use Rattle.mmc_bits.specs.Counters.{before, context}
 use Rattle.mmc_bits.specs.inner.Steps.{Bits}
-use Rattle.mmc_bits.proofs.Cases.{tested}
+use Rattle.race.proofs.Cases.{tested}
 
 pub context-none : (b : List ℕ) → 0 ≡ context levels b 0
 unfolding context before

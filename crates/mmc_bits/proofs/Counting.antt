@@ -9,7 +9,7 @@ use borrow.Author.Tests.{lt-ltb, le-ltb, le-leb, lt-leb, eq-eqb, ne-eqb, eqb-tru
 use Rattle.capture.specs.Bits.{one}
 use Rattle.mmc_bits.specs.inner.Steps.{distinct}
 use Rattle.mmc_bits.specs.Counters.{pair, places, occurs, fresh, ahead, counter}
-use Rattle.mmc_bits.proofs.Cases.{tested}
+use Rattle.race.proofs.Cases.{tested}
 
 pub places-in : (p : ℕ → Bool) (from i : ℕ) → from ≤ i → p i ≡ true → places p from (suc i) ≡ suc (places p from i)
 unfolding places

@@ -15,7 +15,7 @@ use Rattle.capture.specs.Bits.{table}
 use Rattle.mmc_bits.specs.Counters.{context}
 use Rattle.mmc_bits.specs.Guesses.{verdict, own, behind, guess}
 use Rattle.mmc_bits.specs.inner.Steps.{spoken, guesses, below, heeded}
-use Rattle.mmc_bits.proofs.Cases.{tested}
+use Rattle.race.proofs.Cases.{tested}
 use Rattle.mmc_bits.proofs.Counting.{occurs-early, counter-none}
 use Rattle.capture.proofs.Bitstring.{table-length, table-at}
 use Rattle.mmc_bits.proofs.Tables.{table-fill, table-rest}

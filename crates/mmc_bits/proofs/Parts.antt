@@ -14,7 +14,8 @@ use borrow.Author.Tests.{eqb-true, eqb-false, ltb-true, ltb-false}
 use Rattle.mmc_bits.specs.Counters.{pair, counter}
 use Rattle.mmc_bits.specs.Space.{part, span, size}
 use Rattle.mmc_bits.specs.inner.Steps.{Bits, bumped, kept, mixed, distinct}
-use Rattle.mmc_bits.proofs.Cases.{tested, bumped-first, bumped-full, bumped-again, kept-first, kept-full, kept-again}
+use Rattle.race.proofs.Cases.{tested}
+use Rattle.mmc_bits.proofs.Cases.{bumped-first, bumped-full, bumped-again, kept-first, kept-full, kept-again}
 use Rattle.mmc_bits.proofs.Counting.{
   occurs-same,
   occurs-early,

@@ -9,7 +9,7 @@ use lib.Pow.{pow-pos, pow-mono}
 use borrow.Author.Tests.{eqb-true, eqb-false, leb-true, leb-false}
 use Rattle.mmc_bits.specs.inner.Steps.{Bits, distinct}
 use Rattle.mmc_bits.specs.Counters.{before, context, pair, occurs, counter}
-use Rattle.mmc_bits.proofs.Cases.{tested}
+use Rattle.race.proofs.Cases.{tested}
 use Rattle.mmc_bits.proofs.Counting.{occurs-same, occurs-more, distinct-new, distinct-old, distinct-early, ahead-lt, counter-none, counter-low}
 
 -- of the pairs below n, those that occurred before place i

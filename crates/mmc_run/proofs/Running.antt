@@ -25,7 +25,7 @@ use Rattle.mmc_bits.specs.Guesses.{guess}
 use Rattle.mmc_bits.specs.Space.{span, size, final}
 use Rattle.mmc_bits.specs.inner.Tally.{tallyOf}
 use Rattle.mmc_bits.specs.inner.Steps.{Bits, Before, After, distinct}
-use Rattle.mmc_bits.proofs.Cases.{tested}
+use Rattle.race.proofs.Cases.{tested}
 use Rattle.capture.proofs.Bitstring.{bits-length, bits-at, bit-small}
 use Rattle.mmc_bits.proofs.Counting.{distinct-early}
 use Rattle.mmc_bits.proofs.Room.{context-lt}

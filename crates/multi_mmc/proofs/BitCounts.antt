@@ -11,7 +11,7 @@ use lib.Dec.{eqb, ltb}
 use borrow.Author.Tests.{eq-eqb, ne-eqb, lt-ltb, ltb-true, ltb-false}
 use Rattle.mmc_bits.specs.Counters.{pair}
 use Rattle.mmc_bits.specs.inner.Steps.{Bits}
-use Rattle.mmc_bits.proofs.Cases.{tested}
+use Rattle.race.proofs.Cases.{tested}
 use Rattle.mmc_store.specs.Counts.{same, present, count, predicted}
 use Rattle.mmc_store.proofs.Largest.{Top, largest-is}
 use Rattle.multi_mmc.proofs.Windows.{of-two, key, pair-same}

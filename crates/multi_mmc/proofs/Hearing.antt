@@ -10,7 +10,7 @@ use lib.Dec.{ltb}
 use borrow.Author.Tests.{ltb-true, ltb-false, lt-ltb}
 use Rattle.mmc_bits.specs.Counters.{context, occurs, counter}
 use Rattle.mmc_bits.specs.inner.Steps.{Bits, distinct}
-use Rattle.mmc_bits.proofs.Cases.{tested}
+use Rattle.race.proofs.Cases.{tested}
 use Rattle.mmc_store.proofs.Same.{and-left, and-right}
 use Rattle.multi_mmc.proofs.Windows.{of-two, key, context-down}
 use Rattle.multi_mmc.proofs.Gaps.{counter-woken, counter-room, occurs-down, Silent, Since, since-down, silent-since}

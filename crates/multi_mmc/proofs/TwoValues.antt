@@ -18,7 +18,7 @@ use Rattle.mmc_bits.specs.Guesses.{verdict, own}
 use Rattle.mmc_bits.specs.Guesses as BitLevels
 use Rattle.mmc_bits.specs.Mmc as Bits
 use Rattle.mmc_bits.specs.inner.Steps.{Bits}
-use Rattle.mmc_bits.proofs.Cases.{tested}
+use Rattle.race.proofs.Cases.{tested}
 use Rattle.mmc_store.specs.Counts.{count, predicted}
 use Rattle.mmc_store.specs.Levels.{level}
 use Rattle.mmc_store.specs.Levels as StoreLevels

@@ -13,7 +13,7 @@ use lib.Pow.{split, low, mod-mod-pow}
 use borrow.Author.Tests.{eqb-true, eqb-false, eq-eqb, ne-eqb}
 use Rattle.mmc_bits.specs.Counters.{before, context, pair}
 use Rattle.mmc_bits.specs.inner.Steps.{Bits}
-use Rattle.mmc_bits.proofs.Cases.{tested}
+use Rattle.race.proofs.Cases.{tested}
 use Rattle.mmc_bits.proofs.Room.{context-lt}
 use Rattle.mmc_store.specs.Counts.{same}
 
