@@ -10,6 +10,8 @@
  *   4 counts that cannot be
  *   5 a probability or an entropy outside its range, or not a number
  *   6 not run: fewer than 4 samples (MultiMMC) or 4,096 (MultiMCW)
+ *   8 of a record: a wrong length, a wrong kind, or the end of the input
+ *   9 of a record: it holds what no answer is
  * After a refusal every float is -1.0, every other field 0 but for the place of number 3, and all
  * lent memory is what it was. Refusals are tried in the order 1, 6, 2, 3, and 4 before 5.
  *
@@ -31,6 +33,8 @@ extern "C" {
 #define ABUTFERN_SYMBOL_LIMIT 16777216 /* the most symbols of a capture */
 #define ABUTFERN_COUNTERS 262140       /* u32 counters for MultiMMC on at most two values */
 #define ABUTFERN_SPACE 16777216        /* u32 numbers for MultiMMC on more than two values */
+#define ABUTFERN_RECORD_KIND 1         /* the kind of a record that holds an answer */
+#define ABUTFERN_RECORD_SIZE 61        /* bytes of such a record */
 
 typedef struct {
     uint64_t c;            /* correct predictions */
@@ -57,6 +61,17 @@ typedef struct { uint64_t number, rounds; double value; } abutfern_Solved;
 
 /* which: 1 MultiMCW bits, 2 MultiMCW literal, 3 MultiMMC bits, 4 MultiMMC literal, 0 if refused */
 typedef struct { uint64_t number, which; double value; } abutfern_Figure;
+
+/* size: how many bytes the record takes, 0 if refused */
+typedef struct { uint64_t number, size; } abutfern_Written;
+
+/* answer: what the record holds; a refusal of the same number if refused */
+typedef struct { uint64_t number, size; abutfern_Answer answer; } abutfern_Reading;
+
+/* good: the good records before the first bad one, or all of them; number: 0 if none is bad, else
+ * that of the first bad one, whose place is `good`, counted from 0; byte: where the first bad one
+ * starts, or the length of the input */
+typedef struct { uint64_t good, number, byte; } abutfern_Row;
 
 /* Bit i of a capture: at width 1 the symbol itself, else the low `width` bits of each symbol,
  * highest first. Answers 1, 2 (i past the end), 3 (only for the symbol that it reads). */
@@ -127,6 +142,29 @@ abutfern_Answer abutfern_multi_mmc_literal(
 abutfern_Figure abutfern_board_figure(
     abutfern_Answer mcw_bits, abutfern_Answer mcw_literal,
     abutfern_Answer mmc_bits, abutfern_Answer mmc_literal, uint8_t bits_per_symbol);
+
+/* Records: docs/RECORDS.md has the layout. What is written reads as the same answer, and what was
+ * read writes as the same bytes.
+ *
+ * Writes the record of an answer, of kind ABUTFERN_RECORD_KIND, at the start of out; what stands
+ * beyond is unchanged. Answers 2 (out shorter than the record, or than ABUTFERN_RECORD_SIZE bytes
+ * where there is no such kind), 8 (no such kind), 9 (an answer that no estimator gives: see
+ * docs/RECORDS.md). Any answer of the estimators and of abutfern_prediction_estimate is written. */
+abutfern_Written abutfern_write_record(
+    abutfern_Answer answer, uint64_t kind, uint8_t *out, size_t out_length);
+
+/* Reads the record at the start, whatever follows it. Answers 8, 9. Whatever its length field says,
+ * no byte past `length` is read. */
+abutfern_Reading abutfern_read_record(const uint8_t *bytes, size_t length);
+
+/* Reads records that stand one after the other, up to the first bad one. No bytes are no records,
+ * and no error. */
+abutfern_Row abutfern_read_records(const uint8_t *bytes, size_t length);
+
+/* The record of a place, counted from 0, found by reading those before it. Where one of them is bad
+ * its number is given, and 8 past the last. To read all of them, go on by the size that
+ * abutfern_read_record says. */
+abutfern_Reading abutfern_record_at(const uint8_t *bytes, size_t length, uint64_t place);
 
 #ifdef __cplusplus
 }

@@ -95,6 +95,41 @@ pub struct Figure {
     pub value: f64,
 }
 
+/// What the writer of a record says.
+#[repr(C)]
+#[derive(Clone, Copy, Debug, PartialEq, Eq)]
+pub struct Written {
+    /// The answer number: 0, 2, 8, 9.
+    pub number: u64,
+    /// How many bytes the record takes, 0 unless the number is 0.
+    pub size: u64,
+}
+
+/// What the reader of a record says.
+#[repr(C)]
+#[derive(Clone, Copy, Debug)]
+pub struct Reading {
+    /// 0 where a record was read, else 8 or 9.
+    pub number: u64,
+    /// How many bytes the record takes, 0 unless the number is 0.
+    pub size: u64,
+    /// The answer in the record; a refusal of the same number where the number is not 0.
+    pub answer: Answer,
+}
+
+/// What the reader of records in a row says.
+#[repr(C)]
+#[derive(Clone, Copy, Debug, PartialEq, Eq)]
+pub struct Row {
+    /// How many good records stand before the first bad one, or in all. The first bad one is the
+    /// record of this place, counted from 0.
+    pub good: u64,
+    /// 0 where none is bad, else the number of the first bad one, 8 or 9.
+    pub number: u64,
+    /// The byte at which the first bad record starts; the number of bytes where none is bad.
+    pub byte: u64,
+}
+
 macro_rules! functions {
     ($($name:literal fn $symbol:ident($($argument:ident: $kind:ty),*) -> $result:ty;)*) => {
         $(
@@ -148,4 +183,9 @@ functions! {
     "board_figure" fn abutfern_board_figure(
         mcw_bits: Answer, mcw_literal: Answer, mmc_bits: Answer, mmc_literal: Answer,
         bits_per_symbol: u8) -> Figure;
+    "write_record" fn abutfern_write_record(
+        answer: Answer, kind: u64, out: *mut u8, out_length: usize) -> Written;
+    "read_record" fn abutfern_read_record(bytes: *const u8, length: usize) -> Reading;
+    "read_records" fn abutfern_read_records(bytes: *const u8, length: usize) -> Row;
+    "record_at" fn abutfern_record_at(bytes: *const u8, length: usize, place: u64) -> Reading;
 }

@@ -18,7 +18,12 @@ pub extern crate reference;
 #[doc = include_str!("../README.md")]
 pub struct Linking;
 
-pub use ffi::{Alphabet, Answer, BitRead, Estimate, Figure, Solved, Value, exported};
+pub use ffi::{
+    Alphabet, Answer, BitRead, Estimate, Figure, Reading, Row, Solved, Value, Written, exported,
+};
+
+/// How many bytes a record of kind 1 takes.
+pub const RECORD_SIZE: usize = 61;
 
 impl Answer {
     /// Every field as a word, floats by their bits: equal words are equal answers.
@@ -158,4 +163,25 @@ pub fn board_figure(answers: &[Answer; 4], bits_per_symbol: u8) -> Figure {
             bits_per_symbol,
         )
     }
+}
+
+/// Writes an answer's record of a kind (1) at the start of `out`: answers 0, 2, 8, 9.
+pub fn write_record(answer: &Answer, kind: u64, out: &mut [u8]) -> Written {
+    unsafe { ffi::abutfern_write_record(*answer, kind, out.as_mut_ptr(), out.len()) }
+}
+
+/// Reads the record at the start of `bytes`, whatever follows it: answers 0, 8, 9.
+pub fn read_record(bytes: &[u8]) -> Reading {
+    unsafe { ffi::abutfern_read_record(bytes.as_ptr(), bytes.len()) }
+}
+
+/// Reads records that stand one after the other: how many are good, and the first that is not.
+pub fn read_records(bytes: &[u8]) -> Row {
+    unsafe { ffi::abutfern_read_records(bytes.as_ptr(), bytes.len()) }
+}
+
+/// The record of a place, counted from 0, among records that stand one after the other. A place at
+/// the first bad record or past it has the first bad one's number; a place past the end has 8.
+pub fn record_at(bytes: &[u8], place: u64) -> Reading {
+    unsafe { ffi::abutfern_record_at(bytes.as_ptr(), bytes.len(), place) }
 }

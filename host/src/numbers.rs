@@ -34,6 +34,8 @@ pub fn meaning(number: u64) -> &'static str {
         4 => "counts that cannot be",
         5 => "a probability or an entropy is outside its range",
         6 => "not run: too few samples",
-        _ => "a number that document 01 does not give",
+        8 => "a record with a wrong length or kind, or the end of the input",
+        9 => "a record that holds what no answer is",
+        _ => "a number that is not given",
     }
 }

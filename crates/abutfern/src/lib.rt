@@ -3,3 +3,4 @@ mod captures;
 mod estimates;
 mod estimators;
 mod floats;
+mod records;

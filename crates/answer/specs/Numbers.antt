@@ -1,5 +1,7 @@
--- The answer numbers of document 01, each given exactly when its line says. Definitions only.
+-- The answer numbers of documents 01 and 02, each given exactly when its line says. Definitions only.
 use Prim.Native.Nat.{ℕ}
+use mathlib.Core.Bool.{Bool}
+use lib.Dec.{leb}
 
 -- done
 abbrev pub done : ℕ
@@ -28,3 +30,15 @@ outOfRange = 5
 -- not run: fewer samples than the estimator needs
 abbrev pub notRun : ℕ
 notRun = 6
+
+-- of a record: "a wrong length, kind or end of input"
+abbrev pub badFrame : ℕ
+badFrame = 8
+
+-- of a record: what stands in it, or is to, is no answer
+abbrev pub badAnswer : ℕ
+badAnswer = 9
+
+-- "given by then": the numbers that an estimate can have. 8 and 9 are said of a record and stand in none.
+unfoldable pub given : ℕ → Bool
+given n = leb n notRun

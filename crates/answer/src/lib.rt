@@ -1,8 +1,9 @@
 // What every estimator returns: an answer number and, where it ran, the estimate.
 ghost use mathlib.Core.Path.{_≡_};
+ghost use Rattle.answer.specs.Numbers.{given};
 ghost use Rattle.answer.specs.Refused.{minusOne, refused, refusedAt, refusedSolved, refusedValue};
 
-// The answer numbers of document 01.
+// The answer numbers of documents 01 and 02.
 pub const DONE: u64 = 0;
 
 pub const TOO_LONG: u64 = 1;
@@ -16,6 +17,10 @@ pub const IMPOSSIBLE: u64 = 4;
 pub const OUT_OF_RANGE: u64 = 5;
 
 pub const NOT_RUN: u64 = 6;
+
+pub const BAD_FRAME: u64 = 8;
+
+pub const BAD_ANSWER: u64 = 9;
 
 // The shared estimate: C, N, the longest run, p_global, p_global', p_local and the min-entropy in bits per sample.
 #[repr(C)]
@@ -52,6 +57,13 @@ pub struct Solved {
     pub number: u64,
     pub rounds: u64,
     pub value: f64,
+}
+
+// Whether a number is one that an estimate can have.
+pub fn is_given(number: u64) -> bool
+    ensures { λ r. ⌜ r ≡ given number ⌝ }
+{
+    number <= NOT_RUN
 }
 
 // What stands where there is no float: -1.0.

@@ -1,2 +1,3 @@
 pub mod LocalRange
 pub mod Rounds
+pub mod FewRounds

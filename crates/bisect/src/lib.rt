@@ -13,6 +13,9 @@ ghost use Prim.Native.Nat.{_≤_};
 ghost use Rattle.bisect.specs.Bisection.{advanced, checked, halved, localOf, logAlpha, midpoint, narrowed, opening, reached, solvedFrom, turned};
 ghost use Rattle.counts.specs.Counts.{countLimit};
 
+// The most rounds that are begun.
+pub const ROUND_LIMIT: u64 = 1076;
+
 // The bounds of the bisection with the values found there, the p between them and the value there.
 pub struct Bracket {
     pub lbound: f64,
@@ -165,7 +168,7 @@ pub fn solve(max_run_len: u64, n: u64, ldomain: f64) -> Solved
 {
     let mut b = open(ldomain, max_run_len, n);
     let mut rounds: u64 = 0;
-    while rounds < 1076 {
+    while rounds < ROUND_LIMIT {
         rounds += 1;
         let turned = one_round(b, ldomain, max_run_len, n);
         match turned {

@@ -1,11 +1,10 @@
 -- The board figure of document 01, of the four answers in the order MultiMCW bits, MultiMCW literal, MultiMMC bits, MultiMMC literal. Definitions only.
 use Prim.Native.Nat.{ℕ}
 use mathlib.Core.Bool.{Bool, true, false, not, _&&_, _||_, cond}
-use lib.Dec.{leb, eqb}
-use lib.IntN.{pos}
-use lib.Ieee.{Float, fin, binary64, mul, lt, le}
-use Rattle.rounding.specs.Doubles.{zero, one, whole}
-use Rattle.answer.specs.Numbers.{done, outOfRange, notRun}
+use lib.Dec.{eqb}
+use lib.Ieee.{Float, binary64, mul, lt, le}
+use Rattle.rounding.specs.Doubles.{zero, one, eight, whole}
+use Rattle.answer.specs.Numbers.{done, outOfRange, notRun, given}
 use Rattle.answer.specs.Refused.{minusOne}
 use Rattle.answer.specs.declared.Answer.{Answer}
 use Rattle.capture.specs.Limit.{widthOf}
@@ -17,7 +16,7 @@ refusedFigure n = record { number = n; which = 0; value = minusOne }
 
 -- "A refused one: its number (5 for a number not given by then)"; 0 where it ran or was not run
 unfoldable pub refusalOf : ℕ → ℕ
-refusalOf n = cond (eqb n done || eqb n notRun) 0 (cond (leb n notRun) n outOfRange)
+refusalOf n = cond (eqb n done || eqb n notRun) 0 (cond (given n) n outOfRange)
 
 -- "the first in that order"
 abbrev pub firstOf : ℕ → ℕ → ℕ
@@ -39,9 +38,6 @@ smaller a b = cond (eqb (b .number) done && (not (eqb (a .number) done) || lt (b
 -- "bit values times the clamped width"
 unfoldable pub perSymbol : Answer → ℕ → Float
 perSymbol a width = mul binary64 (a .estimate .«min_entropy») (whole (widthOf width))
-
-abbrev pub eight : Float
-eight = fin false 1 (pos 3)
 
 module _ (mcwBits mcwLiteral mmcBits mmcLiteral : Answer) where
   unfoldable pub refusal : ℕ

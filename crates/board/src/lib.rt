@@ -35,7 +35,7 @@ fn refusal_of(number: u64) -> u64
     if number == NOT_RUN {
         return 0;
     }
-    if number <= NOT_RUN {
+    if answer::is_given(number) {
         number
     } else {
         OUT_OF_RANGE

@@ -1,4 +1,4 @@
--- The reported entropy of a probability: exactly its units over 2 ^ 24, from 0 to 8 and no NaN, at most i for a p of 2 ^ -i at least, i at 2 ^ -i,
+-- The reported entropy of a probability: a double, exactly its units over 2 ^ 24, from 0 to 8 and no NaN, at most i for a p of 2 ^ -i at least, i at 2 ^ -i,
 -- and negative zero where it is 0. Assumes nothing.
 use mathlib.Core.Path.{_≡_, refl, sym, ap, _∙_, subst}
 use Prim.Native.Nat.{ℕ, zero, suc, _+_, _*_, _^_, _≤_, _<_}
@@ -8,8 +8,9 @@ use mathlib.Core.Bool.{Bool, true, false, _&&_, _||_}
 use borrow.Author.Tests.{ne-eqb}
 use lib.IntN.{pos}
 use lib.Dec.{T, eqb, ltb, lt→ltb, lit<}
-use lib.Ieee.{Float, nan, inf, fin, up, down, isNan, le}
+use lib.Ieee.{Float, nan, inf, fin, binary64, up, down, isNan, fits, le}
 use lib.Ieee.Exact.{HasValue}
+use lib.Ieee.Fits.{round-fits}
 use lib.Ieee.Order.{le-of-values}
 use lib.Ieee.Positive.{den, num}
 use Rattle.rounding.proofs.FromZero.{zero as +0, nonneg, nonneg-of-value, zero-le-nonneg}
@@ -26,6 +27,11 @@ units-pos = lit< tt
 few-units : (m : ℕ) → m ≤ 8 * units → m < 2 ^ 53
 unfolding units
 few-units m h = lt-of-le-of-lt h (lit< tt)
+
+-- ---- a double, of any p
+pub figure-fits : (p : Float) → T (fits binary64 (entropyOf p))
+unfolding entropyOf bitsOf
+figure-fits p = round-fits binary64 (eqb (entropyUnits p) 0) (entropyUnits p) units
 
 -- ---- exactly m / 2 ^ 24
 pub entropy-value : (p : Float) → Probability p → HasValue (entropyOf p) (eqb (entropyUnits p) 0) (entropyUnits p) units

@@ -1,9 +1,9 @@
--- Every probability of an estimate that is not refused is a number in its range, so the entropy is never refused inside an
--- estimate and is demand 3's figure of the largest of them. Assumes nothing.
+-- Every probability of an estimate that is not refused is a double in its range, so the entropy is never refused inside an
+-- estimate and is demand 3's figure of the largest of them. The rounds are within their limit. Assumes nothing.
 use mathlib.Core.Path.{_≡_, refl, sym, subst}
 use mathlib.Core.Bool.{Bool, true, false, cond}
 use mathlib.Core.Logic.{_⊎_, inl, inr}
-use Prim.Native.Nat.{ℕ, _^_, _≤_, _<_}
+use Prim.Native.Nat.{ℕ, _^_, _≤_, _<_, zero-le}
 use native.Mathlib.Nat.{pos-of-ne-zero, zero-lt-suc}
 use native.Mathlib.Omega.{arith}
 use borrow.Author.Tests.{eqb-false}
@@ -18,7 +18,7 @@ use Rattle.entropy.specs.DemandThree.{DemandThree}
 use Rattle.entropy.specs.MinEntropy.{Probability, minEntropyOf}
 use Rattle.entropy.proofs.Cases.{in-range-number, in-range-value}
 use Rattle.entropy.proofs.DemandThree.{demand-three}
-use Rattle.entropy.proofs.EntropyRange.{entropy-to-eight}
+use Rattle.entropy.proofs.EntropyRange.{entropy-to-eight, figure-fits}
 use Rattle.rounding.specs.Doubles.{_⊕_, _⊖_, _⊗_, _⊘_, one, least, whole}
 use Rattle.rounding.proofs.Compare.{le-of-lt}
 use Rattle.rounding.proofs.FromZero.{nonneg, unsigned, unsigned-of-nonneg, le-chain, nonneg-of-value, round-unsigned, add-unsigned, mul-unsigned, div-unsigned}
@@ -29,11 +29,12 @@ use Rattle.sqrt.proofs.Special.{root-of-nan, root-of-infinity}
 use Rattle.sqrt.proofs.Range.{root-nonneg}
 use Rattle.zero_count.specs.ZeroCount.{zeroCountBound}
 use Rattle.zero_count.proofs.Range.{bound-range, bound-fits}
-use Rattle.bisect.specs.Bisection.{localValue}
+use Rattle.bisect.specs.Bisection.{localValue, localRounds, roundLimit}
 use Rattle.counts.specs.Counts.{countLimit}
 use Rattle.counts.specs.Doubles.{z995, atMostOne, larger}
 use Rattle.rounding.specs.Doubles as D
-use Rattle.prediction.specs.Estimate.{pGlobal, upperBound, primeOf, pGlobalPrime, floorFrom, floorOf, canRaise, pLocal, largest}
+use Rattle.prediction.specs.Estimate.{pGlobal, upperBound, primeOf, pGlobalPrime, floorFrom, floorOf, canRaise, pLocal, roundsFor, largest}
+use Rattle.bisect.proofs.FewRounds.{local-rounds-few}
 use Rattle.bisect.proofs.LocalRange.{Inside, local-inside}
 use Rattle.prediction.proofs.Reaching.{z-nonneg}
 use Rattle.counts.proofs.Refusals.{Possible}
@@ -61,6 +62,10 @@ global-range c n h l = by-none (eqb n 0) refl
     by-none : (b : Bool) → eqb n 0 ≡ b → Between D.zero (cond b D.zero (whole c ⊘ whole n)) one
     by-none true e = record { finite = tt; from = tt; to = tt }
     by-none false e = share-range binary64 c n h (pos-of-ne-zero (eqb-false n 0 e)) (few n l)
+
+pub global-fits : (c n : ℕ) → T (fits binary64 (pGlobal c n))
+unfolding pGlobal fits
+global-fits c n = cond-fits binary64 (eqb n 0) D.zero (whole c ⊘ whole n) tt (div-fits binary64 (whole c) (whole n))
 
 -- no minus sign comes of the root
 root-unsigned : (x : Float) → T (fits binary64 x) → T (unsigned x) → T (unsigned (sqrtOf binary64 x))
@@ -150,6 +155,15 @@ local-range floor run n h = by-raise (canRaise floor run n)
     by-raise true = inr (local-inside floor (h .range .finite) (h .range .to) run n (h .double))
     by-raise false = inl refl
 
+-- "at most 1,076" rounds, and none where p_local is unsolved
+pub rounds-for-few : (floor : Float) (run n : ℕ) → roundsFor floor run n ≤ roundLimit
+unfolding roundsFor
+rounds-for-few floor run n = by-raise (canRaise floor run n)
+  where
+    by-raise : (b : Bool) → cond b (localRounds floor run n) 0 ≤ roundLimit
+    by-raise true = local-rounds-few floor run n
+    by-raise false = zero-le
+
 -- no number from 0 up is below -1
 not-below : (x : Float) → T (nonneg x) → lt x minusOne ≡ false
 unfolding lt
@@ -203,6 +217,12 @@ module _ (c n run k : ℕ) (q : Possible c n run k) where
       subst (λ (v : Float). T (le D.zero v) × T (le v (fin false 1 (pos 3))) × (isNan v ≡ false))
       (sym (in-range-value (largest c n run k) (largest-inside .range .from) (largest-inside .range .to)))
       (entropy-to-eight (largest c n run k) largest-probability)
+
+  pub entropy-fits : T (fits binary64 (minEntropyOf (largest c n run k) .value))
+  entropy-fits =
+      subst (λ (v : Float). T (fits binary64 v))
+      (sym (in-range-value (largest c n run k) (largest-inside .range .from) (largest-inside .range .to)))
+      (figure-fits (largest c n run k))
 
   -- "demand 3's figure for exactly that largest double"
   pub estimate-demand-three : DemandThree (largest c n run k) (minEntropyOf (largest c n run k) .value)

@@ -1,4 +1,3 @@
 pub mod Examples
 pub mod Lines
 pub mod Numerals
-pub mod Storing

@@ -8,7 +8,7 @@ use lib.ListN.{length, drop}
 use borrow.Author.Tests.{lt-ltb, le-ltb}
 use Rattle.answer.specs.declared.Answer.{Answer}
 use Rattle.report_line.specs.Line.{countsOf, estimatesOf, lineOf, longest, lineIn, lengthIn}
-use Rattle.report_line.proofs.Storing.{Wrote, at-start}
+use Rattle.storing.proofs.Storing.{Wrote, at-start}
 
 -- too short a slice
 pub refused : (a : Answer) (out : List ℕ) → length out < longest → (0 ≡ lengthIn a out) × (out ≡ lineIn a out)

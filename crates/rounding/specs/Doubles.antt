@@ -21,7 +21,7 @@ x ⊗ y = mul binary64 x y
 abbrev pub _⊘_ : Float → Float → Float
 x ⊘ y = div binary64 x y
 
--- 0.0, 1/2, 1.0 and 2.0
+-- 0.0, 1/2, 1.0, 2.0 and 8.0
 abbrev pub zero : Float
 zero = fin false 0 (pos 0)
 
@@ -33,6 +33,9 @@ one = fin false 1 (pos 0)
 
 abbrev pub two : Float
 two = fin false 1 (pos 1)
+
+abbrev pub eight : Float
+eight = fin false 1 (pos 3)
 
 -- 1/256, the least probability whose entropy is taken
 abbrev pub least : Float

@@ -17,7 +17,13 @@ fn a_width_after_an_equals_sign() {
 #[test]
 fn help_and_version_end_with_a_line_feed() {
     let room = Room::new("help");
-    for words in [&["--help"][..], &["-h"], &[], &["rate", "--help"]] {
+    for words in [
+        &["--help"][..],
+        &["-h"],
+        &[],
+        &["rate", "--help"],
+        &["show", "-h"],
+    ] {
         let help = room.run(words);
         assert_eq!((help.status, &*help.stderr), (0, ""));
         assert!(help.stdout.starts_with("abutfern: ") && help.stdout.ends_with(".json\n"));
@@ -34,11 +40,11 @@ fn help_and_version_end_with_a_line_feed() {
 }
 
 /// Wrong calls, their words apart by single spaces, and what is said of each.
-const WRONG: [(&str, &str); 15] = [
-    ("frob", "frob is no command; the command is rate"),
+const WRONG: [(&str, &str); 23] = [
+    ("frob", "frob is no command; the commands are rate and show"),
     (
         "a.bin --width 8",
-        "a.bin is no command; the command is rate",
+        "a.bin is no command; the commands are rate and show",
     ),
     ("rate", "no capture file is named"),
     (
@@ -83,18 +89,49 @@ const WRONG: [(&str, &str); 15] = [
         "rate a -w 8",
         "-w is not known; a file of that name is ./-w",
     ),
+    (
+        "rate a --width=8 --records",
+        "--records takes the name of a new file, and none is given",
+    ),
+    (
+        "rate a --width=8 --records=",
+        "--records takes the name of a new file, and none is given",
+    ),
+    (
+        "rate a --width=8 --records -",
+        "--records takes the name of a new file, not '-'; a file of that name is ./-",
+    ),
+    (
+        "rate a --records --width=8",
+        "--records takes the name of a new file, not '--width=8'; \
+         a file of that name is ./--width=8",
+    ),
+    (
+        "rate a --width=8 --records=b --records=c",
+        "--records is given twice: all records go to one file",
+    ),
+    ("show", "no file of records is named"),
+    (
+        "show - -",
+        "- is standard input, which can be read once: name it once",
+    ),
+    ("show a --width=8", "--width is not known"),
 ];
+
+const USAGE: &str = "\
+usage: abutfern rate FILE.. --width W [--json] [--jobs N] [--records OUT]
+       abutfern show FILE.. [--json]
+";
 
 #[test]
 fn a_wrong_call_says_what_was_wrong_and_how_to_call_it() {
     let room = Room::new("wrong");
     for (call, wrong) in WRONG {
         let words: Vec<&str> = call.split(' ').collect();
-        let usage = "usage: abutfern rate FILE.. --width W [--json] [--jobs N]";
         let expected = Outcome {
             status: 2,
             stdout: String::new(),
-            stderr: format!("abutfern: {wrong}\n{usage}\nabutfern --help says the rest\n"),
+            stderr: format!("abutfern: {wrong}\n{USAGE}abutfern --help says the rest\n"),
         };
         assert_eq!(room.run(&words), expected);
     }

@@ -1,4 +1,4 @@
-//! The C program of host/README.md, compiled and run as the page says.
+//! The C programs of host/README.md, compiled and run as the page says.
 
 use crate::room::{Room, repository};
 use std::process::Command;
@@ -6,16 +6,19 @@ use std::process::Command;
 /// The archive that the command is linked with.
 const ARCHIVE: Option<&str> = option_env!("ABUTFERN_LINKED");
 
-fn program() -> String {
+/// The page's C program of a place, from 0.
+fn program(place: usize) -> String {
     let page = include_str!("../../README.md");
-    let (_, rest) = page.split_once("```c\n").expect("the page has a C program");
+    let rest = page.split("```c\n").nth(place + 1);
+    let rest = rest.expect("the page has as many C programs");
     let (program, _) = rest.split_once("```").expect("the program has an end");
     program.to_string()
 }
 
-/// Compiles it to `rate` in the room, with every warning an error.
-fn compile(room: &Room) {
-    room.file("rate.c", program().as_bytes());
+/// Compiles it under a name in the room, with every warning an error.
+fn compile(room: &Room, place: usize, name: &str) {
+    let source = format!("{name}.c");
+    room.file(&source, program(place).as_bytes());
     let mut compiler = Command::new("cc");
     compiler.args([
         "-std=c11",
@@ -28,8 +31,8 @@ fn compile(room: &Room) {
     compiler.arg("-I").arg(env!("CARGO_MANIFEST_DIR"));
     compiler
         .arg("-o")
-        .arg(room.path("rate"))
-        .arg(room.path("rate.c"));
+        .arg(room.path(name))
+        .arg(room.path(&source));
     compiler.arg(ARCHIVE.expect("the library is linked"));
     let compiled = compiler.output();
     let compiled = compiled.expect("cc, which Rust links with, is at hand");
@@ -40,7 +43,7 @@ fn compile(room: &Room) {
 #[test]
 fn the_c_program_rates_a_capture() {
     let room = Room::new("c");
-    compile(&room);
+    compile(&room, 0, "rate");
     let figure = "2.336441636085510253906250 bits of min-entropy per symbol\n";
     for (file, status, expected) in [
         ("sample/board-17.bin", 0, figure),
@@ -55,4 +58,15 @@ fn the_c_program_rates_a_capture() {
         let ended = (output.status.code(), &*written);
         assert_eq!(ended, (Some(status), expected), "{file}");
     }
+}
+
+#[test]
+fn the_c_program_writes_and_reads_a_record() {
+    let room = Room::new("c-record");
+    compile(&room, 1, "record");
+    let output = Command::new(room.path("record")).output();
+    let output = output.expect("the program can be started");
+    let written = String::from_utf8_lossy(&output.stdout);
+    let expected = "61 bytes: C 5995 of N 49937, min-entropy 3.013943\n";
+    assert_eq!((output.status.code(), &*written), (Some(0), expected));
 }

@@ -50,8 +50,8 @@ fn a_file_that_fails_while_it_is_read() {
     cannot_be_read(&room, "/proc/self/mem", reason);
 }
 
-/// The command for a user who may not read every file: root runs a copy of it as nobody.
-fn as_a_user(room: &Room, words: &[&str]) -> Command {
+/// The command for a user who may not read and write every file: root runs a copy of it as nobody.
+pub fn as_a_user(room: &Room, words: &[&str]) -> Command {
     let mut command = room.command(words);
     let data = std::fs::metadata(room.path(".")).expect("the room is there");
     if data.uid() == 0 {

@@ -1,12 +1,7 @@
 //! What the pages say of the command and of the toolchain.
 
-use crate::room::{outcome, repository};
+use crate::room::{Room, outcome, page, repository, sample};
 use std::process::Command;
-
-fn page(name: &str) -> String {
-    let path = repository().join(name);
-    std::fs::read_to_string(&path).unwrap_or_else(|error| panic!("{}: {error}", path.display()))
-}
 
 #[test]
 fn the_readme_shows_what_the_command_prints() {
@@ -18,6 +13,21 @@ fn the_readme_shows_what_the_command_prints() {
     for line in printed.lines().filter(|line| !line.is_empty()) {
         assert!(readme.contains(&format!("    {line}\n")), "{line}");
     }
+}
+
+#[test]
+fn the_commands_of_the_readme_run_in_its_order() {
+    let room = Room::new("readme");
+    std::fs::create_dir(room.path("sample")).expect("a folder can be made");
+    room.file("sample/board-17.bin", &sample());
+    let readme = page("README.md");
+    let calls = readme
+        .lines()
+        .filter_map(|line| line.strip_prefix("    ./abutfern "));
+    let ends: Vec<i32> = calls
+        .map(|call| room.run(&call.split(' ').collect::<Vec<_>>()).status)
+        .collect();
+    assert_eq!(ends, [0; 3]);
 }
 
 #[test]

@@ -94,6 +94,12 @@ pub fn repository() -> PathBuf {
     repository.expect("the package stands in it").to_path_buf()
 }
 
+/// A page of the repository.
+pub fn page(name: &str) -> String {
+    let path = repository().join(name);
+    std::fs::read_to_string(&path).unwrap_or_else(|error| panic!("{}: {error}", path.display()))
+}
+
 /// The sample capture.
 pub fn sample() -> Vec<u8> {
     let path = repository().join("sample/board-17.bin");

@@ -7,16 +7,18 @@ use std::sync::LazyLock;
 const READER: &str = include_str!("strict.py");
 
 /// Whether python3 is there and runs.
-fn at_hand() -> bool {
-    let tried = Command::new("python3").args(["-c", "import json"]).output();
-    tried.is_ok_and(|output| output.status.success())
+pub fn at_hand() -> bool {
+    static AT_HAND: LazyLock<bool> = LazyLock::new(|| {
+        let tried = Command::new("python3").args(["-c", "import json"]).output();
+        tried.is_ok_and(|output| output.status.success())
+    });
+    *AT_HAND
 }
 
 /// Reads text of one JSON object to a line, and returns the name in each. Nothing without python3.
 pub fn read(text: &str) -> Option<Vec<String>> {
     assert!(!text.is_empty() && text.ends_with('\n'), "{text:?}");
-    static AT_HAND: LazyLock<bool> = LazyLock::new(at_hand);
-    if !*AT_HAND {
+    if !at_hand() {
         return None;
     }
     let mut python = Command::new("python3");

@@ -1,6 +1,8 @@
--- `board::refusal_of` meets its contract. 0 and 6 are no refusals, and a number above 6 is not given yet. Assumes nothing.
+-- `board::refusal_of` meets its contract. 0 and 6 are no refusals, and a number that is not given is out of range. Assumes nothing.
+use mathlib.Core.Path.{sym, _∙_}
 use Rattle.board.specs.Board.{refusalOf}
-use borrow.Author.Tests.{eq-eqb, ne-eqb, le-leb, lt-leb}
+use borrow.Author.Needs.{needs}
+use borrow.Author.Tests.{eq-eqb, ne-eqb}
 use Rattle.board.proofs.refusal_of.Statement.{statement}
 use Rattle.board.proofs.refusal_of.Tie as tie
 
@@ -14,11 +16,17 @@ returns-2 c = simp (ne-eqb _ _ (c .before .if1 .left), eq-eqb _ _ (c .if2 .taken
 
 returns-3 : tie.Need-returns-3
 unfolding refusalOf
-returns-3 c = simp (ne-eqb _ _ (c .before .before .if1 .left), ne-eqb _ _ (c .before .if2 .left), le-leb _ _ (c .if3 .taken))
+returns-3 c =
+    let told = c .before in
+    let other = told .before in
+    simp (ne-eqb _ _ (other .before .if1 .left), ne-eqb _ _ (other .if2 .left), sym (told .is-given .ensures) ∙ c .if3 .taken)
 
 returns-4 : tie.Need-returns-4
 unfolding refusalOf
-returns-4 c = simp (ne-eqb _ _ (c .before .before .if1 .left), ne-eqb _ _ (c .before .if2 .left), lt-leb _ _ (c .if3 .left))
+returns-4 c =
+    let told = c .before in
+    let other = told .before in
+    simp (ne-eqb _ _ (other .before .if1 .left), ne-eqb _ _ (other .if2 .left), sym (told .is-given .ensures) ∙ c .if3 .left)
 
 pub refusal-of-spec : {M : Type 1} → statement M
-refusal-of-spec = tie.close (tie.spec returns returns-2 returns-3 returns-4)
+refusal-of-spec = tie.close (tie.spec returns returns-2 (λ c κs. search needs) returns-3 returns-4)

@@ -8,7 +8,7 @@ use lib.ListN.{set, length-set}
 use lib.Seq.{sets}
 use Rattle.report_line.specs.Numerals.{digits as digitsOf, glyph as glyphOf}
 use Rattle.report_line.proofs.Numerals.{no-digits, last-digit, digits-length}
-use Rattle.report_line.proofs.Storing.{set-behind}
+use Rattle.storing.proofs.Storing.{set-behind}
 use Prim.Native.Nat.{ℕ, suc, _+_, _-_, _/_, _%_, _<_}
 use borrow.Fn.Kinds.{In}
 use borrow.Fn.PlainCycle.{Measures, is, falls, and}

@@ -1,7 +1,7 @@
 -- `report_line::counts` meets its contract: each number stands behind the one before. Assumes nothing.
 use native.Mathlib.Omega.{arith}
 use Rattle.report_line.specs.Line.{countsOf, number}
-use Rattle.report_line.proofs.Storing.{Wrote, more}
+use Rattle.storing.proofs.Storing.{Wrote, more}
 use borrow.Author.Needs.{needs}
 use Rattle.report_line.proofs.counts.Statement.{statement}
 use Rattle.report_line.proofs.counts.Tie as tie

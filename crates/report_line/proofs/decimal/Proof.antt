@@ -4,7 +4,7 @@ use native.Mathlib.Omega.{arith}
 use lib.ListN.{length}
 use Rattle.report_line.specs.Numerals.{decimal}
 use Rattle.report_line.proofs.Numerals.{stored-decimal, decimal-length}
-use Rattle.report_line.proofs.Storing.{behind}
+use Rattle.storing.proofs.Storing.{behind}
 use borrow.Author.Needs.{needs}
 use Rattle.report_line.proofs.decimal.Statement.{statement}
 use Rattle.report_line.proofs.decimal.Tie as tie

@@ -1,7 +1,7 @@
 -- `report_line::estimates` meets its contract: each double stands behind the one before. Assumes nothing.
 use native.Mathlib.Omega.{arith}
 use Rattle.report_line.specs.Line.{estimatesOf, double, space, newline}
-use Rattle.report_line.proofs.Storing.{Wrote, more}
+use Rattle.storing.proofs.Storing.{Wrote, more}
 use borrow.Author.Needs.{needs}
 use Rattle.report_line.proofs.estimates.Statement.{statement}
 use Rattle.report_line.proofs.estimates.Tie as tie

@@ -2,7 +2,7 @@
 use native.Mathlib.Omega.{arith}
 use Rattle.report_line.specs.Line.{countsOf, estimatesOf}
 use Rattle.report_line.proofs.Lines.{refused, whole}
-use Rattle.report_line.proofs.Storing.{Wrote, more}
+use Rattle.storing.proofs.Storing.{Wrote, more}
 use borrow.Author.Needs.{needs}
 use Rattle.report_line.proofs.line.Statement.{statement}
 use Rattle.report_line.proofs.line.Tie as tie

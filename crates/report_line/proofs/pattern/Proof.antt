@@ -3,7 +3,7 @@ use mathlib.Core.Path.{_∙_}
 use native.Mathlib.Omega.{arith}
 use Rattle.report_line.specs.Numerals.{pattern}
 use Rattle.report_line.proofs.Numerals.{stored-pattern, pattern-length}
-use Rattle.report_line.proofs.Storing.{behind}
+use Rattle.storing.proofs.Storing.{behind}
 use borrow.Author.Needs.{needs}
 use Rattle.report_line.proofs.pattern.Statement.{statement}
 use Rattle.report_line.proofs.pattern.Tie as tie

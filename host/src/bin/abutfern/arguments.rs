@@ -1,7 +1,8 @@
 //! The command line.
 
 use crate::names;
-use std::ffi::OsString;
+use std::ffi::{OsStr, OsString};
+use std::os::unix::ffi::OsStrExt;
 use std::path::PathBuf;
 
 /// What the caller wants.
@@ -10,6 +11,7 @@ pub enum Call {
     Help,
     Version,
     Rate(Rate),
+    Show(Show),
 }
 
 /// Files to rate, and how.
@@ -19,6 +21,15 @@ pub struct Rate {
     pub width: u8,
     pub json: bool,
     pub jobs: usize,
+    /// Where the records go.
+    pub records: Option<PathBuf>,
+}
+
+/// Files of records to show, and how.
+#[derive(Debug, PartialEq)]
+pub struct Show {
+    pub files: Vec<PathBuf>,
+    pub json: bool,
 }
 
 /// Reads the words of the command line; the error says in one line what is wrong with them.
@@ -34,55 +45,84 @@ pub fn read(words: impl Iterator<Item = OsString>) -> Result<Call, String> {
         (Some(call), _) => Ok(call),
         (None, None) => Ok(Call::Help),
         (None, Some((first, rest))) if first == "rate" => rate(rest).map(Call::Rate),
+        (None, Some((first, rest))) if first == "show" => show(rest).map(Call::Show),
         (None, Some((first, _))) => {
             let first = names::printable(&first.to_string_lossy());
-            Err(format!("{first} is no command; the command is rate"))
+            Err(format!(
+                "{first} is no command; the commands are rate and show"
+            ))
         }
     }
 }
 
 fn rate(words: &[OsString]) -> Result<Rate, String> {
     let mut files: Vec<PathBuf> = Vec::new();
-    let (mut width, mut json, mut jobs) = (None, false, 2);
+    let (mut width, mut json, mut jobs, mut records) = (None, false, 2, None);
     let mut words = words.iter();
     while let Some(word) = words.next() {
         let Some((option, own)) = option(word) else {
             files.push(word.into());
             continue;
         };
-        let mut value = || own.clone().or_else(|| words.next().map(text));
+        let mut value = || own.clone().or_else(|| words.next().cloned());
         match option.as_str() {
             "--width" => width = Some(within("--width", value(), 8)? as u8),
             "--jobs" => jobs = within("--jobs", value(), 64)?,
+            "--records" if records.is_some() => return Err(TWO_ROWS.to_string()),
+            "--records" => records = Some(new_file("--records", value())?),
             "--json" if own.is_none() => json = true,
             "--" if own.is_none() => files.extend(words.by_ref().map(PathBuf::from)),
-            "--json" => return Err("--json takes no value".to_string()),
+            "--json" => return Err(NO_VALUE.to_string()),
             _ => return Err(unknown(&option)),
         }
     }
-    named(&files)?;
+    named(&files, "no capture file is named")?;
     let width = width.ok_or("the bits in a symbol are missing: --width W, 1 to 8")?;
     Ok(Rate {
         files,
         width,
         json,
         jobs,
+        records,
     })
 }
 
+fn show(words: &[OsString]) -> Result<Show, String> {
+    let mut files: Vec<PathBuf> = Vec::new();
+    let mut json = false;
+    let mut words = words.iter();
+    while let Some(word) = words.next() {
+        match option(word) {
+            None => files.push(word.into()),
+            Some((option, own)) => match (option.as_str(), own) {
+                ("--json", None) => json = true,
+                ("--", None) => files.extend(words.by_ref().map(PathBuf::from)),
+                ("--json", Some(_)) => return Err(NO_VALUE.to_string()),
+                _ => return Err(unknown(&option)),
+            },
+        }
+    }
+    named(&files, "no file of records is named")?;
+    Ok(Show { files, json })
+}
+
+const NO_VALUE: &str = "--json takes no value";
+const TWO_ROWS: &str = "--records is given twice: all records go to one file";
+
 /// An option and the value that follows it after `=`; none where the word is a file's name.
-fn option(word: &OsString) -> Option<(String, Option<String>)> {
-    let word = text(word);
-    if !word.starts_with('-') || word == "-" {
+fn option(word: &OsStr) -> Option<(String, Option<OsString>)> {
+    let bytes = word.as_bytes();
+    if !bytes.starts_with(b"-") || word == names::INPUT {
         return None;
     }
-    match word.split_once('=') {
-        Some((option, value)) => Some((option.to_string(), Some(value.to_string()))),
-        None => Some((word, None)),
+    let part = |bytes| OsStr::from_bytes(bytes).to_os_string();
+    match bytes.iter().position(|byte| *byte == b'=') {
+        Some(i) => Some((text(&part(&bytes[..i])), Some(part(&bytes[i + 1..])))),
+        None => Some((text(word), None)),
     }
 }
 
-fn text(word: &OsString) -> String {
+fn text(word: &OsStr) -> String {
     word.to_string_lossy().into_owned()
 }
 
@@ -96,20 +136,34 @@ fn unknown(option: &str) -> String {
 }
 
 /// The number that an option brings, from 1 to `most`.
-fn within(option: &str, value: Option<String>, most: usize) -> Result<usize, String> {
+fn within(option: &str, value: Option<OsString>, most: usize) -> Result<usize, String> {
     let wanted = format!("{option} takes a number from 1 to {most}");
-    let value = value.ok_or(format!("{wanted}, and none is given"))?;
+    let value = text(&value.ok_or(format!("{wanted}, and none is given"))?);
     match value.parse() {
         Ok(number) if (1..=most).contains(&number) => Ok(number),
         _ => Err(format!("{wanted}, not '{}'", names::printable(&value))),
     }
 }
 
-/// Whether there are files to rate, each with a name, and standard input at most once.
-fn named(files: &[PathBuf]) -> Result<(), String> {
+/// The name of a new file that an option brings. What looks like an option is none.
+fn new_file(option: &str, value: Option<OsString>) -> Result<PathBuf, String> {
+    let wanted = format!("{option} takes the name of a new file");
+    let value = value.filter(|value| !value.is_empty());
+    let value = value.ok_or(format!("{wanted}, and none is given"))?;
+    if value.as_bytes().starts_with(b"-") {
+        let value = names::printable(&text(&value));
+        return Err(format!(
+            "{wanted}, not '{value}'; a file of that name is ./{value}"
+        ));
+    }
+    Ok(value.into())
+}
+
+/// Whether there are files, each with a name, and standard input at most once.
+fn named(files: &[PathBuf], none: &str) -> Result<(), String> {
     let count = |name: &str| files.iter().filter(|file| file.as_os_str() == name).count();
     if files.is_empty() {
-        return Err("no capture file is named".to_string());
+        return Err(none.to_string());
     }
     if count("") > 0 {
         return Err("a file's name is empty; is a variable unset?".to_string());
@@ -135,6 +189,7 @@ mod tests {
             width,
             json,
             jobs,
+            records: None,
         }))
     }
 
@@ -146,6 +201,37 @@ mod tests {
         assert_eq!(call, expected(&["-", "a=b.bin"], 8, false, 64));
         let call = read_line("rate --width 1 -- --help --json=1 -x");
         assert_eq!(call, expected(&["--help", "--json=1", "-x"], 1, false, 2));
+    }
+
+    #[test]
+    fn records_go_to_a_file_and_are_shown() {
+        for line in [
+            "rate a --width 4 --records b=c",
+            "rate --records=b=c --width=4 a",
+        ] {
+            let Ok(Call::Rate(call)) = read_line(line) else {
+                panic!("{line}");
+            };
+            assert_eq!(call.files, [PathBuf::from("a")]);
+            assert_eq!(call.records, Some("b=c".into()));
+        }
+        let shown = |files: &[&str], json| {
+            let files = files.iter().map(PathBuf::from).collect();
+            Ok(Call::Show(Show { files, json }))
+        };
+        assert_eq!(read_line("show a - --json"), shown(&["a", "-"], true));
+        assert_eq!(read_line("show -- --json"), shown(&["--json"], false));
+    }
+
+    #[test]
+    fn a_name_that_is_no_utf_8_stays_as_it_is() {
+        let name = OsStr::from_bytes(b"--records=\xff.rec").to_os_string();
+        let words = ["rate", "a", "--width=8"].map(OsString::from);
+        let Ok(Call::Rate(call)) = read(words.into_iter().chain([name])) else {
+            panic!("the call is read");
+        };
+        let records = call.records.expect("a name is given");
+        assert_eq!(records.as_os_str().as_bytes(), b"\xff.rec");
     }
 
     #[test]
@@ -173,6 +259,16 @@ mod tests {
             "rate a.bin --width 8 --json=yes",
             "rate a.bin -w 8",
             "rate - - --width 8",
+            "rate a.bin --width 8 --records",
+            "rate a.bin --width 8 --records=",
+            "rate a.bin --width 8 --records -",
+            "rate a.bin --width 8 --records --json",
+            "rate a.bin --width 8 --records b --records c",
+            "show",
+            "show - -",
+            "show a.rec --width 8",
+            "show a.rec --json=yes",
+            "show a.rec --records b",
         ] {
             assert!(read_line(line).is_err(), "{line}");
         }

@@ -1,9 +1,9 @@
-//! Reads a capture, and says what to do where that fails.
+//! Opens and reads files, and says what to do where that fails.
 
 use crate::{names, streams};
 use abutfern::numbers::SYMBOL_LIMIT;
-use std::fs::File;
-use std::io::{ErrorKind, Read};
+use std::fs::{File, Metadata};
+use std::io::{Error, ErrorKind, Read};
 use std::path::Path;
 
 /// A capture as it was read: of one too long, a symbol more than the limit.
@@ -15,16 +15,7 @@ pub struct Capture {
 
 /// Reads a capture file, or standard input.
 pub fn read(path: &Path) -> Result<Capture, String> {
-    let file = if path.as_os_str() == names::INPUT {
-        streams::input()
-    } else {
-        File::open(path)
-    };
-    let file = file.map_err(advice)?;
-    let data = file.metadata().map_err(advice)?;
-    if data.is_dir() {
-        return Err("is a folder: name the capture files in it".to_string());
-    }
+    let (file, data) = open(path, "capture files")?;
     let most = SYMBOL_LIMIT as u64 + 1;
     let mut symbols = Vec::new();
     symbols.reserve_exact(data.len().min(most) as usize);
@@ -36,8 +27,23 @@ pub fn read(path: &Path) -> Result<Capture, String> {
     Ok(Capture { symbols, length })
 }
 
+/// Opens a file of the `wanted`, or standard input.
+pub fn open(path: &Path, wanted: &str) -> Result<(File, Metadata), String> {
+    let file = if path.as_os_str() == names::INPUT {
+        streams::input()
+    } else {
+        File::open(path)
+    };
+    let file = file.map_err(advice)?;
+    let data = file.metadata().map_err(advice)?;
+    if data.is_dir() {
+        return Err(format!("is a folder: name the {wanted} in it"));
+    }
+    Ok((file, data))
+}
+
 /// An error in words, and what to do.
-fn advice(error: std::io::Error) -> String {
+pub fn advice(error: Error) -> String {
     match error.kind() {
         ErrorKind::NotFound => "is not there: check the name and the folder".to_string(),
         ErrorKind::PermissionDenied => "may not be read: check its permissions".to_string(),

@@ -1,7 +1,9 @@
 //! What the command says about itself.
 
-/// How it is called, on one line.
-pub const USAGE: &str = "usage: abutfern rate FILE.. --width W [--json] [--jobs N]";
+/// How it is called, a line for each command.
+pub const USAGE: &str = "\
+usage: abutfern rate FILE.. --width W [--json] [--jobs N] [--records OUT]
+       abutfern show FILE.. [--json]";
 
 /// What `abutfern --version` prints.
 pub const VERSION: &str = concat!("abutfern ", env!("CARGO_PKG_VERSION"), "\n");
@@ -10,25 +12,38 @@ pub const VERSION: &str = concat!("abutfern ", env!("CARGO_PKG_VERSION"), "\n");
 pub const HELP: &str = "\
 abutfern: how much min-entropy a noise source gives, from captures of it
 
-  abutfern rate FILE.. --width W [--json] [--jobs N]
+  abutfern rate FILE.. --width W [--json] [--jobs N] [--records OUT]
+  abutfern show FILE.. [--json]
 
 A capture is a file with one symbol to a byte, as it was recorded, at most 16,777,216 of them; `-`
 is standard input. Four estimates are made, of NIST SP 800-90B: MultiMCW (6.3.7) and MultiMMC
 (6.3.9), each on the bits of the symbols and on the symbols themselves (literal). The board figure
 is the smallest of those that ran, in bits of min-entropy per symbol.
 
-  --width W   bits in a symbol, 1 to 8. At width 1 every byte is 0 or 1; at a width of 2 to 8 the
-              low W bits of each byte are the symbol's bits, highest first
-  --json      one JSON object per file, on a line of its own, for machines
-  --jobs N    files rated side by side (default 2); each takes its capture twice and 64 MiB
-  --          what follows is a file's name, whatever it begins with
+  --width W      bits in a symbol, 1 to 8. At width 1 every byte is 0 or 1; at a width of 2 to 8
+                 the low W bits of each byte are the symbol's bits, highest first
+  --json         one JSON object per file, on a line of its own, for machines
+  --jobs N       files rated side by side (default 2); each takes its capture twice and 64 MiB
+  --records OUT  writes the records of all captures to a new file as well
+  --             what follows is a file's name, whatever it begins with
 
 MultiMCW needs 4,096 samples and MultiMMC 4, a sample being a bit or a symbol; an estimate with
 fewer is not run, and says so. What cannot be rated is refused with a number and a reason.
 
-The exit status is 0 if every file has a board figure, 1 if one has none or the output cannot be
-written, 2 for a wrong call.
+A record is an answer in 61 bytes, for other programs. OUT has four for each capture, in the order
+of the table, capture after capture as they were named; there are no names in it. So if a capture
+cannot be read, OUT is not written; one that is refused with a number has its records. OUT is
+there whole or not at all, and no file that is there already is replaced.
+
+`show` prints the records in files, or from standard input: each with its place among them, from 0,
+the byte that it begins at and its answer, with a dash for what the answer does not have. Where one
+is bad, those before it are printed, and its place, its byte and what is wrong with it are said.
+
+The exit status is 0 if every file has a board figure (rate) or only good records (show), 1 if one
+has not or something cannot be read or written, 2 for a wrong call.
 
   abutfern rate board-17.bin --width 8
+  abutfern rate lot-3/*.bin --width=4 --records lot-3.rec
+  abutfern show lot-3.rec
   abutfern rate lot-3/*.bin --width=4 --json > lot-3.json
 ";

@@ -1,6 +1,8 @@
-//! A rating as one JSON object. Doubles are printed so that they read back with the same bits.
+//! A rating, or a row of records, as one JSON object. Doubles are printed so that they read back with
+//! the same bits.
 
 use crate::rate::{ESTIMATORS, Estimator, Rating};
+use crate::row::{Bad, Record, Row};
 use abutfern::Answer;
 use abutfern::numbers::meaning;
 
@@ -84,6 +86,42 @@ fn figure(rating: &Rating) -> String {
             quoted(meaning(number))
         ),
     }
+}
+
+/// The object of a file of records.
+pub fn records(file: &str, row: &Row) -> String {
+    let records: Vec<String> = row.records.iter().map(record).collect();
+    let bad = row.bad.as_ref().map_or("null".to_string(), bad);
+    format!(
+        r#"{{"file":{},"records":[{}],"bad":{bad}}}"#,
+        quoted(file),
+        records.join(",")
+    ) + "\n"
+}
+
+fn record(record: &Record) -> String {
+    let answer = &record.answer;
+    let rest = match answer.number {
+        0 => ran(answer),
+        3 => format!(r#","place":{}"#, answer.place),
+        _ => String::new(),
+    };
+    format!(
+        r#"{{"byte":{},"number":{},"answer":{}{rest}}}"#,
+        record.byte,
+        answer.number,
+        quoted(meaning(answer.number))
+    )
+}
+
+fn bad(bad: &Bad) -> String {
+    format!(
+        r#"{{"place":{},"byte":{},"number":{},"reason":{}}}"#,
+        bad.place,
+        bad.byte,
+        bad.number,
+        quoted(&bad.reason)
+    )
 }
 
 /// A JSON string.

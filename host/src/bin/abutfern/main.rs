@@ -1,14 +1,21 @@
-//! The command for the people at the bench: rates captures with the proved library.
+//! The command for the people at the bench: rates captures with the proved library, and writes and
+//! shows its records.
 
 mod arguments;
 mod files;
 mod help;
 mod json;
+mod list;
 mod names;
 mod progress;
 mod rate;
+mod reason;
+mod records;
+mod row;
+mod show;
 mod streams;
 mod table;
+mod whole;
 mod work;
 
 use arguments::Call;
@@ -19,6 +26,7 @@ fn main() -> ExitCode {
         Ok(Call::Help) => ended(streams::output_is_open() && streams::print(help::HELP)),
         Ok(Call::Version) => ended(streams::output_is_open() && streams::print(help::VERSION)),
         Ok(Call::Rate(call)) => ended(rated(&call)),
+        Ok(Call::Show(call)) => ended(shown(&call)),
         Err(error) => {
             let usage = help::USAGE;
             streams::say(&format!("{error}\n{usage}\nabutfern --help says the rest"));
@@ -36,11 +44,21 @@ fn ended(good: bool) -> ExitCode {
 }
 
 fn rated(call: &arguments::Rate) -> bool {
-    if let Some(missing) = rate::missing() {
+    let writer = call.records.as_ref().map(|_| "write_record");
+    has(rate::CALLED.into_iter().chain(writer)) && streams::output_is_open() && work::rate_all(call)
+}
+
+fn shown(call: &arguments::Show) -> bool {
+    has(row::CALLED) && streams::output_is_open() && show::show_all(call)
+}
+
+/// Whether the library has these functions; says so if not.
+fn has(functions: impl IntoIterator<Item = &'static str>) -> bool {
+    let missing = functions.into_iter().find(|name| !abutfern::exported(name));
+    if let Some(missing) = missing {
         streams::say(&format!(
             "the library that this was built with has no {missing}: build it anew, from its sources"
         ));
-        return false;
     }
-    streams::output_is_open() && work::rate_all(call)
+    missing.is_none()
 }

@@ -1,7 +1,7 @@
 //! The four estimates of a capture and its board figure.
 
 use abutfern::numbers::{COUNTERS, MCW_SAMPLES, MMC_SAMPLES, SPACE};
-use abutfern::{Answer, Figure, exported};
+use abutfern::{Answer, Figure};
 
 /// One of the four estimators.
 pub struct Estimator {
@@ -46,17 +46,14 @@ impl Estimator {
     }
 }
 
-/// A function that the library lacks, if any.
-pub fn missing() -> Option<&'static str> {
-    let needed = [
-        "multi_mcw",
-        "multi_mcw_literal",
-        "multi_mmc",
-        "multi_mmc_literal",
-        "board_figure",
-    ];
-    needed.into_iter().find(|name| !exported(name))
-}
+/// The functions of the library that a rating calls.
+pub const CALLED: [&str; 5] = [
+    "multi_mcw",
+    "multi_mcw_literal",
+    "multi_mmc",
+    "multi_mmc_literal",
+    "board_figure",
+];
 
 /// A capture, rated.
 pub struct Rating {
@@ -68,6 +65,9 @@ pub struct Rating {
     /// Symbols with bits above the width, and the first one's place.
     pub wide: Option<(usize, usize)>,
 }
+
+/// A rating, or why the capture cannot be read.
+pub type Rated = Result<Rating, String>;
 
 /// Memory that is lent to the library, kept from file to file.
 pub struct Lent {

@@ -63,7 +63,7 @@ fn row(estimator: &Estimator, answer: &Answer, rating: &Rating) -> String {
 }
 
 /// p_local, which is there only if it was solved.
-fn local(p_local: f64) -> String {
+pub fn local(p_local: f64) -> String {
     if p_local < 0.0 {
         "unsolved".to_string()
     } else {
@@ -99,13 +99,13 @@ fn not_run(rating: &Rating) -> String {
 }
 
 /// Six places after the point, never more than the value.
-fn rounded_down(entropy: f64) -> String {
+pub fn rounded_down(entropy: f64) -> String {
     let millionths = (entropy.abs() * 1e6).floor() as u64;
     format!("{}.{:06}", millionths / 1_000_000, millionths % 1_000_000)
 }
 
 /// A number with its thousands apart.
-fn grouped(number: u64) -> String {
+pub fn grouped(number: u64) -> String {
     if number < 1000 {
         return number.to_string();
     }

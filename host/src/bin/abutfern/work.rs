@@ -2,17 +2,29 @@
 
 use crate::arguments::Rate;
 use crate::progress::Progress;
-use crate::rate::{Lent, Rating, rate};
+use crate::rate::{Lent, Rated, rate};
+use crate::records::Records;
 use crate::{files, json, names, streams, table};
 use std::collections::BTreeMap;
 use std::path::Path;
 use std::sync::atomic::{AtomicUsize, Ordering};
 use std::sync::mpsc::{Receiver, Sender, channel};
 
-type Rated = Result<Rating, String>;
-
-/// Rates every file; true if each of them has a board figure.
+/// Rates every file; true if each of them has a board figure, and the records are written.
 pub fn rate_all(call: &Rate) -> bool {
+    let Some(out) = &call.records else {
+        return each_rated(call, &mut None);
+    };
+    let mut records = Records::to(out);
+    if records.is_none() {
+        return false;
+    }
+    let good = each_rated(call, &mut records);
+    records.is_some_and(Records::keep) && good
+}
+
+/// Rates every file, prints it and takes its records; true if each has a board figure.
+fn each_rated(call: &Rate, records: &mut Option<Records>) -> bool {
     let jobs = call.jobs.min(call.files.len());
     let progress = Progress::new(call.files.len(), jobs);
     let next = AtomicUsize::new(0);
@@ -23,7 +35,7 @@ pub fn rate_all(call: &Rate) -> bool {
             scope.spawn(move || work(job, call, progress, next, &done));
         }
         drop(done);
-        print_in_order(call, &progress, ratings)
+        print_in_order(call, &progress, ratings, records)
     })
 }
 
@@ -60,7 +72,12 @@ fn work(
 }
 
 /// Prints each rating once all before it are printed; true if each has a figure.
-fn print_in_order(call: &Rate, progress: &Progress, ratings: Receiver<(usize, Rated)>) -> bool {
+fn print_in_order(
+    call: &Rate,
+    progress: &Progress,
+    ratings: Receiver<(usize, Rated)>,
+    records: &mut Option<Records>,
+) -> bool {
     let mut waiting = BTreeMap::new();
     let mut good = true;
     let mut printed = 0;
@@ -68,7 +85,10 @@ fn print_in_order(call: &Rate, progress: &Progress, ratings: Receiver<(usize, Ra
         waiting.insert(i, rated);
         while let Some(rated) = waiting.remove(&printed) {
             let file = &call.files[printed];
-            good &= progress.aside(|| print(file, &rated, call.json));
+            good &= progress.aside(|| print(file, &rated, call));
+            if let Some(records) = records {
+                records.add(file, &rated);
+            }
             printed += 1;
         }
     }
@@ -76,14 +96,14 @@ fn print_in_order(call: &Rate, progress: &Progress, ratings: Receiver<(usize, Ra
 }
 
 /// Prints one rating; true if it has a figure. The program ends where it cannot be printed.
-fn print(file: &Path, rated: &Rated, as_json: bool) -> bool {
+fn print(file: &Path, rated: &Rated, call: &Rate) -> bool {
     let (shown, name) = (names::shown(file), file.to_string_lossy());
     let text = match rated {
-        Ok(rating) if as_json => json::text(&name, rating),
+        Ok(rating) if call.json => json::text(&name, rating),
         Ok(rating) => table::text(&shown, rating),
         Err(error) => {
             streams::say(&format!("{shown} {error}"));
-            if as_json {
+            if call.json {
                 json::failure(&name, error)
             } else {
                 String::new()
@@ -91,7 +111,13 @@ fn print(file: &Path, rated: &Rated, as_json: bool) -> bool {
         }
     };
     if !streams::print(&text) {
+        if let Some(out) = &call.records {
+            streams::say(&format!("{} {NOT_ALL}", names::shown(out)));
+        }
         std::process::exit(1);
     }
     rated.as_ref().is_ok_and(|rating| rating.figure.number == 0)
 }
+
+const NOT_ALL: &str =
+    "is not written, since standard output could not be: mend that and rate again";

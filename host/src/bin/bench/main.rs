@@ -5,6 +5,7 @@ mod calls;
 mod captures;
 mod clock;
 mod crafted;
+mod records;
 mod track;
 
 use abutfern::exported;
@@ -18,7 +19,8 @@ bench: the library's time beside the Rust's, both built for release
   bench [--symbols N] [--only NAME] [--grow]
 
   --symbols N   symbols in a capture (default 1000000)
-  --only NAME   one function, as multi_mcw_literal, or calls: the functions of numbers
+  --only NAME   one function, as multi_mcw_literal, or calls: the functions of numbers, or
+                records: a row of 1,000,000 of them
   --grow        the library's time for 10,000 to 16,777,216 symbols instead; a length that would
                 take over five minutes is left out
 
@@ -51,9 +53,14 @@ fn main() -> ExitCode {
     if grow {
         growth(&tracks);
     } else {
-        ratios(&tracks, symbols);
+        if !tracks.is_empty() {
+            ratios(&tracks, symbols);
+        }
         if wanted("calls") {
             calls::print();
+        }
+        if wanted("records") {
+            records::print();
         }
     }
     ExitCode::SUCCESS

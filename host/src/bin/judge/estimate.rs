@@ -2,6 +2,7 @@
 
 use crate::floats::same;
 use crate::tally::Tally;
+use crate::trip;
 use abutfern::numbers::ROUND_LIMIT;
 use abutfern::reference::prediction::PredictionEstimate;
 use abutfern::steps::{Bisection, End, Library, Local, Rust, local};
@@ -13,9 +14,10 @@ const NEAR: f64 = 1e-6;
 /// Bounds further apart than this leave a bisection that an interval check ended uncompared.
 const APART: f64 = 1e-9;
 
-/// The faults of an answer 0 against the Rust's estimate over an alphabet of size k.
+/// The faults of an answer 0, and of its record, against the Rust's estimate over an alphabet of
+/// size k.
 pub fn faults(ours: &Answer, rust: &PredictionEstimate, k: u64, tally: &mut Tally) -> Vec<String> {
-    let mut faults = Vec::new();
+    let mut faults = Vec::from_iter(trip::fault(ours));
     let counts = (ours.estimate.c, ours.estimate.n, ours.estimate.max_run_len);
     if (ours.number, ours.place, ours.k) != (0, 0, k) {
         faults.push(format!("number, place, k of {ours:?}, not 0, 0, {k}"));

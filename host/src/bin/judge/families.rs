@@ -2,7 +2,7 @@
 
 use crate::arguments::Arguments;
 use crate::tally::Clock;
-use crate::{board, capture, mcw, mmc, prediction, real, rules};
+use crate::{board, capture, mcw, mmc, prediction, real, records, rules};
 use abutfern::exported;
 use abutfern::random::Random;
 
@@ -14,7 +14,7 @@ struct Family {
     judge: fn(Clock, &mut Random) -> u64,
 }
 
-const FAMILIES: [Family; 7] = [
+const FAMILIES: [Family; 8] = [
     Family {
         name: "capture",
         weight: 2,
@@ -60,6 +60,12 @@ const FAMILIES: [Family; 7] = [
         weight: 1,
         functions: &["board_figure"],
         judge: board::judge,
+    },
+    Family {
+        name: "records",
+        weight: 2,
+        functions: &["write_record", "read_record", "read_records", "record_at"],
+        judge: records::judge,
     },
 ];
 

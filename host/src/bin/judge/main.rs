@@ -1,6 +1,8 @@
 //! The judge: runs the proved library beside the Rust that it was ported from, and says what
 //! differs.
 
+#[cfg(has_reference)]
+mod answers;
 mod arguments;
 #[cfg(has_reference)]
 mod board;
@@ -8,6 +10,8 @@ mod board;
 mod capture;
 #[cfg(has_reference)]
 mod captures;
+#[cfg_attr(not(has_reference), allow(dead_code))]
+mod codec;
 #[cfg(has_reference)]
 mod counters;
 #[cfg(has_reference)]
@@ -24,19 +28,26 @@ mod lent;
 mod mcw;
 #[cfg(has_reference)]
 mod mmc;
-#[cfg(has_reference)]
+#[cfg_attr(not(has_reference), allow(dead_code))]
 mod plain;
 #[cfg(has_reference)]
 mod prediction;
 #[cfg(has_reference)]
+mod reader;
+#[cfg(has_reference)]
 mod real;
+#[cfg(has_reference)]
+mod records;
 mod replay;
+#[cfg(has_reference)]
+mod rows;
 #[cfg(has_reference)]
 mod rules;
 #[cfg(has_reference)]
 mod space;
 #[cfg_attr(not(has_reference), allow(dead_code))]
 mod tally;
+mod trip;
 
 use arguments::Arguments;
 use std::process::ExitCode;

@@ -3,7 +3,7 @@
 use crate::captures::{WIDTHS, described, fitting, random_capture};
 use crate::lent::{Lent, bytes, length_near};
 use crate::tally::{Clock, Tally};
-use crate::{estimate, plain};
+use crate::{estimate, plain, trip};
 use abutfern::numbers::{MCW_SAMPLES, SYMBOL_LIMIT};
 use abutfern::random::Random;
 use abutfern::{exported, reference};
@@ -35,10 +35,11 @@ fn compare_bits(symbols: &[u8], width: u8, tally: &mut Tally) {
     });
 }
 
-/// The fault of an answer that is not this refusal, in every field.
+/// The faults of an answer that is not this refusal, in every field, or not in its record.
 pub fn refusal_faults(ours: &abutfern::Answer, refusal: plain::Refusal) -> Vec<String> {
     let same = ours.words() == plain::refused(refusal).words();
-    Vec::from_iter((!same).then(|| format!("{ours:?}, not refused by {refusal:?}")))
+    let fault = (!same).then(|| format!("{ours:?}, not refused by {refusal:?}"));
+    fault.into_iter().chain(trip::fault(ours)).collect()
 }
 
 /// Compares one answer on literals, and all of the output's memory.

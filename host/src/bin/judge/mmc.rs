@@ -6,7 +6,7 @@ use crate::lent::{Lent, bytes, length_near, words};
 use crate::mcw::refusal_faults;
 use crate::space::Space;
 use crate::tally::{Clock, Tally, spread};
-use crate::{estimate, plain};
+use crate::{estimate, plain, trip};
 use abutfern::numbers::{COUNTERS, SPACE, SYMBOL_LIMIT};
 use abutfern::random::Random;
 use abutfern::shapes::{Shape, capture};
@@ -263,7 +263,9 @@ impl Bench {
             abutfern::multi_mmc(&other, 8, &mut counters);
             let second = abutfern::multi_mmc(&one, 8, &mut counters);
             let same = first.words() == second.words() && left == counters;
-            tally.check(same, || format!("{}: {second:?}", described(&one)));
+            let fault = (!same).then(|| format!("{second:?}, not as before"));
+            let faults = fault.into_iter().chain(trip::fault(&first)).collect();
+            tally.judge(faults, || described(&one));
         }
         tally.close()
     }
@@ -284,7 +286,9 @@ impl Bench {
             abutfern::multi_mmc_literal(&other, &mut out, space);
             let second = abutfern::multi_mmc_literal(&one, &mut out, space);
             let same = first.words() == second.words();
-            tally.check(same, || format!("{}: {second:?}", described(&one)));
+            let fault = (!same).then(|| format!("{second:?}, not as before"));
+            let faults = fault.into_iter().chain(trip::fault(&first)).collect();
+            tally.judge(faults, || described(&one));
         }
         self.space.lend(SPACE).fill(0);
         tally.close()

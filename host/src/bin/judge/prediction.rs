@@ -1,9 +1,9 @@
 //! The shared estimate and its two steps.
 
 use crate::floats::{any, near, same};
-use crate::plain;
+use crate::mcw::refusal_faults;
 use crate::tally::{Clock, Tally, spread};
-use crate::{estimate, floats};
+use crate::{estimate, floats, plain};
 use abutfern::numbers::PREDICTION_LIMIT;
 use abutfern::random::Random;
 use abutfern::steps::{Library, Rust, bisect, function};
@@ -32,9 +32,7 @@ pub fn judge(clock: Clock, random: &mut Random) -> u64 {
 fn compare(c: u64, n: u64, max_run_len: u64, k: u64, tally: &mut Tally) {
     let ours = abutfern::prediction_estimate(c, n, max_run_len, k);
     let faults = if plain::impossible(c, n, max_run_len, k) {
-        let expected = plain::refused((4, 0));
-        let same = ours.words() == expected.words();
-        Vec::from_iter((!same).then(|| format!("{ours:?}, not refused by 4")))
+        refusal_faults(&ours, (4, 0))
     } else {
         let rust = reference::prediction::prediction_estimate(c, n, max_run_len, k);
         estimate::faults(&ours, &rust, k, tally)
@@ -124,7 +122,7 @@ fn random_counts(clock: Clock, random: &mut Random) -> u64 {
 }
 
 /// Counts that can be, most of them as an estimator would find them.
-fn counts(random: &mut Random) -> (u64, u64, u64) {
+pub fn counts(random: &mut Random) -> (u64, u64, u64) {
     let n = random.of_any_size(PREDICTION_LIMIT);
     let p = match random.below(3) {
         0 => random.unit(),

@@ -3,6 +3,7 @@
 
 use crate::floats::{same, units_between};
 use crate::tally::Tally;
+use crate::trip;
 use abutfern::numbers::{COUNTERS, SPACE};
 use abutfern::shapes::{SHAPES, capture, draws};
 use abutfern::{Alphabet, Answer, exported};
@@ -176,7 +177,7 @@ fn estimated(case: &Case, space: &mut Vec<u32>) -> bool {
             (ours, &case.words[..])
         }
     };
-    answered(&ours, words, case.checks)
+    answered(&ours, words, case.checks) && trip::fault(&ours).is_none()
 }
 
 fn bits(case: &Case) -> bool {

@@ -1,4 +1,4 @@
--- Text stored piece after piece. Assumes nothing.
+-- Bytes stored piece after piece. Assumes nothing.
 use mathlib.Core.Path.{_≡_, ap, _∙_}
 use mathlib.Core.List.{List, [], _∷_, _++_}
 use Prim.Native.Nat.{ℕ, suc, _+_, _≤_}

@@ -1,0 +1,4 @@
+pub mod Little
+pub mod Envelope
+pub mod Putting
+pub mod Reading

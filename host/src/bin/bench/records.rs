@@ -1,0 +1,90 @@
+//! Records: a row of them read by one call, beside a sum over the same bytes, and written by one
+//! call each.
+
+use crate::clock;
+use abutfern::random::Random;
+use abutfern::{Answer, RECORD_SIZE, exported};
+use std::hint::black_box;
+
+const RECORDS: usize = 1_000_000;
+
+/// How many different answers the records hold.
+const ANSWERS: usize = 4_096;
+
+/// Prints what exists: for records that all ran, and for a row in which one in four is a refusal, in
+/// no order.
+pub fn print() {
+    if !exported("write_record") {
+        return;
+    }
+    for (title, refused) in [("all ran", 0), ("one in four refused", 1)] {
+        let mut random = Random::new(1);
+        let answers: Vec<Answer> = (0..ANSWERS).map(|_| answer(&mut random, refused)).collect();
+        let order: Vec<usize> = (0..RECORDS).map(|_| random.index(ANSWERS)).collect();
+        let mut row = vec![0; RECORDS * RECORD_SIZE];
+        let written = clock::best(|| write(&answers, &order, black_box(&mut row)));
+        let head = format!("{RECORDS} records, {title}");
+        println!("\n{head:<37}   one record        speed   ratio");
+        if exported("read_records") {
+            let found = abutfern::read_records(&row);
+            assert_eq!((found.good, found.number), (RECORDS as u64, 0));
+            read(&row);
+        }
+        println!("{}", line("write_record, one call each", written));
+    }
+}
+
+/// Prints the reader's time and that of the sum, by turns, and how many of the sum's it takes.
+fn read(row: &[u8]) {
+    let ours = || {
+        black_box(abutfern::read_records(black_box(row)));
+    };
+    let sum = || {
+        black_box(sum(black_box(row)));
+    };
+    let (ours, sum) = clock::beside(ours, Some(sum));
+    let sum = sum.unwrap_or(f64::INFINITY);
+    println!(
+        "{} {:>7.3}",
+        line("read_records, one call", ours),
+        ours / sum
+    );
+    println!("{}", line("a sum of the same words", sum));
+}
+
+/// One title with the nanoseconds of a record and the bytes of a second.
+fn line(title: &str, seconds: f64) -> String {
+    let each = seconds / RECORDS as f64 * 1e9;
+    let speed = RECORD_SIZE as f64 / each;
+    format!("{title:<37} {each:>9.3} ns {speed:>7.2} GB/s")
+}
+
+/// The sum of the words: what it takes to have the bytes from memory.
+fn sum(bytes: &[u8]) -> u64 {
+    let words = bytes
+        .chunks_exact(8)
+        .filter_map(|word| word.try_into().ok());
+    words.map(u64::from_le_bytes).fold(0, u64::wrapping_add)
+}
+
+fn write(answers: &[Answer], order: &[usize], row: &mut [u8]) {
+    for (i, record) in order.iter().zip(row.chunks_exact_mut(RECORD_SIZE)) {
+        black_box(abutfern::write_record(&answers[*i], 1, record));
+    }
+}
+
+/// An estimate of random counts, or, `refused` times in four, a refusal of any number.
+fn answer(random: &mut Random, refused: u64) -> Answer {
+    let n = random.of_any_size(100_000_000);
+    let c = random.below(n + 1);
+    let run = c.min(1 + random.below(40));
+    let mut answer = abutfern::prediction_estimate(c, n, run, 1 + random.below(256));
+    if random.chance(refused, 4) {
+        answer = abutfern::prediction_estimate(0, 0, 0, 0);
+        answer.number = 1 + random.below(6);
+    }
+    if answer.number == 3 {
+        answer.place = random.below(16_777_216);
+    }
+    answer
+}
