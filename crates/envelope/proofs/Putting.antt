@@ -33,7 +33,9 @@ module _ {X : Type 0} where
   body-append : (fs gs : List (Field X)) (x : X) → bodyOf (fs ++ gs) x ≡ bodyOf fs x ++ bodyOf gs x
   unfolding bodyOf
   body-append [] gs x = refl
-  body-append (f ∷ fs) gs x = ap (λ (t : List ℕ). little (f .width) (f .of x) ++ t) (body-append fs gs x) ∙ sym (append-assoc (little (f .width) (f .of x)) (bodyOf fs x) (bodyOf gs x))
+  body-append (f ∷ fs) gs x =
+      let first = little (f .width) (f .of x) in
+      ap (λ (t : List ℕ). first ++ t) (body-append fs gs x) ∙ sym (append-assoc first (bodyOf fs x) (bodyOf gs x))
 
   pub none-put : (l : List ℕ) (at : ℕ) (x : X) → Put l at [] x l
   unfolding bodyOf

@@ -37,8 +37,13 @@ no-size true false a h = refl
 no-size false r a h = refl
 
 -- all but the answer
-extents : (f r : Bool) (a : Answer) → record { number = readBy f r a .number; size = readBy f r a .size }
-    ≡ cond {A = Extent} f (cond r (record { number = done; size = answerSize }) (record { number = badAnswer; size = 0 })) (record { number = badFrame; size = 0 })
+abbrev extent : ℕ → ℕ → Extent
+extent n s = record { number = n; size = s }
+
+abbrev pub extentBy : Bool → Bool → Extent
+extentBy f r = cond f (cond r (extent done answerSize) (extent badAnswer 0)) (extent badFrame 0)
+
+extents : (f r : Bool) (a : Answer) → extent (readBy f r a .number) (readBy f r a .size) ≡ extentBy f r
 extents true true a = refl
 extents true false a = refl
 extents false r a = refl
@@ -56,8 +61,8 @@ module _ (bytes : List ℕ) where
       ap (λ (b : Bool). readBy b (recordable (answerIn bytes)) (answerIn bytes)) p ∙ ap (λ (b : Bool). readBy f b (answerIn bytes)) q
 
   pub extent-by : {f r : Bool} → framed answerKind (following answerFields) bytes ≡ f → recordable (answerIn bytes) ≡ r →
-      extentOf bytes ≡ cond f (cond r (record { number = done; size = answerSize }) (record { number = badAnswer; size = 0 })) (record { number = badFrame; size = 0 })
-  extent-by {f} {r} p q = ap (λ (t : Reading). record { number = t .number; size = t .size }) (by-tests p q) ∙ extents f r (answerIn bytes)
+      extentOf bytes ≡ extentBy f r
+  extent-by {f} {r} p q = ap (λ (t : Reading). extent (t .number) (t .size)) (by-tests p q) ∙ extents f r (answerIn bytes)
 
   pub reading-tests : readingOf bytes .number ≡ done → (framed answerKind (following answerFields) bytes ≡ true) × (recordable (answerIn bytes) ≡ true)
   unfolding readingOf

@@ -23,7 +23,11 @@ returns-3 c =
     let few = c .before in
     let can = few .before .before in
     let told = can .before in
-    simp (eq-eqb _ _ (told .before .if1 .left), ap not (sym (told .impossible-counts .ensures) ∙ can .if2 .left), le-leb _ _ (few .if3 .taken)) (c .are-likelihoods .ensures)
+    simp (
+      eq-eqb _ _ (told .before .if1 .left),
+      ap not (sym (told .impossible-counts .ensures) ∙ can .if2 .left),
+      le-leb _ _ (few .if3 .taken),
+    ) (c .are-likelihoods .ensures)
 
 returns-4 : tie.Need-returns-4
 unfolding asRan

@@ -29,7 +29,11 @@ returns-4 c =
     let no-rounds = c .before in
     let no-k = no-rounds .before .before in
     let there = no-k .before .before in
-    simp (sym (there .before .is-placed .ensures) ∙ not-false _ (there .if1 .left), eq-eqb _ _ (no-k .if2 .left), eq-eqb _ _ (no-rounds .if3 .left)) (c .is-blank .ensures)
+    simp (
+      sym (there .before .is-placed .ensures) ∙ not-false _ (there .if1 .left),
+      eq-eqb _ _ (no-k .if2 .left),
+      eq-eqb _ _ (no-rounds .if3 .left),
+    ) (c .is-blank .ensures)
 
 pub is-as-refused-spec : {M : Type 1} → statement M
 is-as-refused-spec =

@@ -53,7 +53,7 @@ const FLOATS: [u64; 18] = [
 ];
 
 /// The answer of words that stand as `Answer::words` has them.
-pub fn of_words(words: [u64; 11]) -> Answer {
+fn of_words(words: [u64; 11]) -> Answer {
     let [number, place, k, rounds, c, n, max_run_len, ..] = words;
     let [p_global, p_global_prime, p_local, min_entropy] =
         [7, 8, 9, 10].map(|i| f64::from_bits(words[i]));
@@ -99,6 +99,20 @@ pub fn of_no_number() -> Vec<Answer> {
     let refusals = numbers.map(|number| (number, 0)).into_iter();
     let refusals = refusals.chain(misplaced).chain(too_far);
     refusals.map(plain::refused).collect()
+}
+
+/// Each field of each answer of both kinds changed to each mark, the floats by their bits.
+pub fn of_other_fields() -> impl Iterator<Item = Answer> {
+    let answers = of_each_number().into_iter().chain(of_no_number());
+    let fields = answers.flat_map(|answer| (0..11).map(move |field| (answer.words(), field)));
+    fields.flat_map(|(words, field)| {
+        let changed = others(field, words[field]).into_iter();
+        changed.map(move |other| {
+            of_words(std::array::from_fn(|i| {
+                if i == field { other } else { words[i] }
+            }))
+        })
+    })
 }
 
 /// An answer that a record may hold.
@@ -162,7 +176,7 @@ fn within(most: f64, random: &mut Random) -> f64 {
 }
 
 /// What a field is changed to, one after the other; `own` is what it is.
-pub fn others(field: usize, own: u64) -> Vec<u64> {
+fn others(field: usize, own: u64) -> Vec<u64> {
     let mut marks = vec![own];
     if field < NUMBERS {
         marks.extend(LIMITS);

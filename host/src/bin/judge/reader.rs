@@ -1,6 +1,6 @@
 //! The reader of one record beside the plain codec.
 
-use crate::answers::{disturbed, good, of_each_number, of_no_number, of_words, others};
+use crate::answers::{disturbed, good, of_each_number, of_no_number, of_other_fields};
 use crate::codec;
 use crate::records::{Bench, KINDS, outcome};
 use crate::tally::{Clock, Tally};
@@ -121,16 +121,8 @@ impl Bench {
     /// Each field of each answer laid out as each mark, the floats by their bits.
     pub fn read_fields(&mut self, random: &mut Random) -> u64 {
         let mut tally = Tally::new("read_record: each field at and beside every limit");
-        for answer in of_each_number().into_iter().chain(of_no_number()) {
-            let words = answer.words();
-            for field in 0..words.len() {
-                for other in others(field, words[field]) {
-                    let mut words = words;
-                    words[field] = other;
-                    let record = codec::laid_out(&of_words(words));
-                    self.read(&record, RECORD_SIZE, random, &mut tally);
-                }
-            }
+        for answer in of_other_fields() {
+            self.read(&codec::laid_out(&answer), RECORD_SIZE, random, &mut tally);
         }
         tally.close()
     }
