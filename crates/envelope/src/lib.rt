@@ -7,9 +7,6 @@ ghost use lib.Seq.{sets};
 ghost use Rattle.envelope.specs.Little.{little, numberAt};
 ghost use Rattle.envelope.specs.Envelope.{bodyStart, framed, kindBytes, lengthBytes};
 
-// Where the body starts.
-pub const BODY: usize = 6;
-
 fn wide(byte: u8) -> u64
     ensures { λ r. ⌜ (r ≡ byte) × (r < 256) ⌝ }
 {

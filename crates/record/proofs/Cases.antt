@@ -16,7 +16,6 @@ use Rattle.fields.specs.Fields.{answerFields, answerIn, answerKind, answerRecor
 use Rattle.record.specs.Record.{extentOf, needed, notRead, readingOf, wasRead, writeNumber, writtenIn, writtenOf}
 use Rattle.record.specs.declared.Extent.{Extent}
 use Rattle.record.specs.declared.Reading.{Reading}
-use Rattle.record.specs.declared.Written.{Written}
 
 -- how many bytes a record takes
 pub answer-length : (a : Answer) → length (answerRecord a) ≡ answerSize

@@ -27,12 +27,14 @@ fn is_none(x: f64) -> bool
     x == -1.0
 }
 
-// p_local is -1.0 where it is not solved. Both tests are made, since which of them holds is not foreseen.
+// p_local is -1.0 where it is not solved.
 fn is_local(x: f64) -> bool
     ensures { λ r. ⌜ r ≡ (eq x minusOne || within x one) ⌝ }
 {
-    let solved = is_within(x, 1.0);
-    if is_none(x) { true } else { solved }
+    if is_none(x) {
+        return true;
+    }
+    is_within(x, 1.0)
 }
 
 // Whether the four floats are in their ranges.

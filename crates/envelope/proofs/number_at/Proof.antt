@@ -1,6 +1,6 @@
 -- `envelope::number_at` meets its contract. The highest byte is read first, and each byte below it makes the value the number in the bytes from there on.
 -- Assumes nothing.
-use Prim.Native.Nat.{_+_, _-_, _*_, _^_, _<_}
+use Prim.Native.Nat.{_-_}
 use native.Mathlib.Omega.{arith}
 use borrow.Author.Needs.{needs}
 use Rattle.envelope.proofs.Reading.{Taken, none-taken, all-taken, taken, fits-word}

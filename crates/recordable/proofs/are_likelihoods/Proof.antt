@@ -1,10 +1,9 @@
 -- `recordable::are_likelihoods` meets its contract. Each float is held against its range in turn. Assumes nothing.
 use mathlib.Core.Path.{_≡_, sym, _∙_}
-use mathlib.Core.Bool.{true, false}
+use mathlib.Core.Bool.{true}
 use borrow.Author.Needs.{needs}
 use borrow.Author.Tests.{not-true, not-false}
-use lib.Ieee.{ofBits, eq}
-use Rattle.answer.specs.Refused.{minusOne}
+use lib.Ieee.{ofBits}
 use Rattle.rounding.specs.Doubles.{one}
 use Rattle.recordable.specs.Recordable.{likelihoods, within}
 use Rattle.recordable.proofs.are_likelihoods.Statement.{statement}

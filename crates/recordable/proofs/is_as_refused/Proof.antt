@@ -1,5 +1,5 @@
 -- `recordable::is_as_refused` meets its contract. Place, k, rounds and the estimate are tested in turn. Assumes nothing.
-use mathlib.Core.Path.{_≡_, sym, _∙_}
+use mathlib.Core.Path.{sym, _∙_}
 use borrow.Author.Needs.{needs}
 use borrow.Author.Tests.{eq-eqb, ne-eqb, not-true, not-false}
 use Rattle.recordable.specs.Recordable.{asRefused}

@@ -10,9 +10,7 @@ returns c = simp (sym (c .before .is-none .ensures) ∙ c .if1 .taken)
 
 returns-2 : tie.Need-returns-2
 unfolding ofBits
-returns-2 c =
-    let told = c .before in
-    simp (sym (told .is-none .ensures) ∙ c .if1 .left) (told .before .is-within .ensures)
+returns-2 c = let told = c .before in simp (sym (told .before .is-none .ensures) ∙ told .if1 .left) (c .is-within .ensures)
 
 pub is-local-spec : {M : Type 1} → statement M
-is-local-spec = tie.close (tie.spec (λ c κs. search needs) (λ c κs. search needs) returns returns-2)
+is-local-spec = tie.close (tie.spec (λ c κs. search needs) returns (λ c κs. search needs) returns-2)

@@ -1,5 +1,5 @@
 -- `recordable::is_recordable` meets its contract. An answer of number 0 is tested as one that ran, any other given number as a refusal. Assumes nothing.
-use mathlib.Core.Path.{_≡_, sym, _∙_}
+use mathlib.Core.Path.{sym, _∙_}
 use borrow.Author.Needs.{needs}
 use borrow.Author.Tests.{eq-eqb, ne-eqb}
 use Rattle.recordable.specs.Recordable.{recordable}
