@@ -4,8 +4,8 @@ use mathlib.Core.Bool.{true}
 use Prim.Native.Nat.{ℕ, _<_}
 use native.Mathlib.Omega.{arith}
 use borrow.Author.Tests.{leb-true}
-use Rattle.answer.specs.Numbers.{given, notRun}
+use Rattle.answer.specs.Numbers.{badWidth, given}
 
 pub given-small : (n : ℕ) → given n ≡ true → n < 256
 unfolding given
-given-small n h = omega (arith, leb-true n notRun h)
+given-small n h = omega (arith, leb-true n badWidth h)

@@ -15,7 +15,7 @@ tooLong = 1
 abbrev pub tooShort : ℕ
 tooShort = 2
 
--- width 1 (after clamping) and a symbol above 1
+-- width 1 and a symbol above 1
 abbrev pub tooWide : ℕ
 tooWide = 3
 
@@ -31,6 +31,10 @@ outOfRange = 5
 abbrev pub notRun : ℕ
 notRun = 6
 
+-- "Width 0 and widths above 8"
+abbrev pub badWidth : ℕ
+badWidth = 7
+
 -- of a record: "a wrong length, kind or end of input"
 abbrev pub badFrame : ℕ
 badFrame = 8
@@ -41,4 +45,4 @@ badAnswer = 9
 
 -- "given by then": the numbers that an estimate can have. 8 and 9 are said of a record and stand in none.
 unfoldable pub given : ℕ → Bool
-given n = leb n notRun
+given n = leb n badWidth

@@ -18,6 +18,8 @@ pub const OUT_OF_RANGE: u64 = 5;
 
 pub const NOT_RUN: u64 = 6;
 
+pub const BAD_WIDTH: u64 = 7;
+
 pub const BAD_FRAME: u64 = 8;
 
 pub const BAD_ANSWER: u64 = 9;
@@ -63,7 +65,7 @@ pub struct Solved {
 pub fn is_given(number: u64) -> bool
     ensures { λ r. ⌜ r ≡ given number ⌝ }
 {
-    number <= NOT_RUN
+    number <= BAD_WIDTH
 }
 
 // What stands where there is no float: -1.0.

@@ -1,13 +1,13 @@
--- The board figure of document 01, of the four answers in the order MultiMCW bits, MultiMCW literal, MultiMMC bits, MultiMMC literal. Definitions only.
+-- The board figure, of the four answers in the order MultiMCW bits, MultiMCW literal, MultiMMC bits, MultiMMC literal. Definitions only.
 use Prim.Native.Nat.{ℕ}
-use mathlib.Core.Bool.{Bool, true, false, not, _&&_, _||_, cond}
+use mathlib.Core.Bool.{Bool, true, not, _&&_, _||_, cond}
 use lib.Dec.{eqb}
 use lib.Ieee.{Float, binary64, mul, lt, le}
 use Rattle.rounding.specs.Doubles.{zero, one, eight, whole}
-use Rattle.answer.specs.Numbers.{done, outOfRange, notRun, given}
+use Rattle.answer.specs.Numbers.{done, outOfRange, notRun, badWidth, given}
 use Rattle.answer.specs.Refused.{minusOne}
 use Rattle.answer.specs.declared.Answer.{Answer}
-use Rattle.capture.specs.Limit.{widthOf}
+use Rattle.capture.specs.Limit.{noWidth}
 use Rattle.board.specs.declared.Figure.{Figure}
 
 -- the answer of a number that is not 0
@@ -35,9 +35,9 @@ entry which a value = cond (eqb (a .number) done) (record { number = done; which
 unfoldable pub smaller : Figure → Figure → Figure
 smaller a b = cond (eqb (b .number) done && (not (eqb (a .number) done) || lt (b .value) (a .value))) b a
 
--- "bit values times the clamped width"
+-- "bit values times the .. width"
 unfoldable pub perSymbol : Answer → ℕ → Float
-perSymbol a width = mul binary64 (a .estimate .«min_entropy») (whole (widthOf width))
+perSymbol a width = mul binary64 (a .estimate .«min_entropy») (whole width)
 
 module _ (mcwBits mcwLiteral mmcBits mmcLiteral : Answer) where
   unfoldable pub refusal : ℕ
@@ -57,6 +57,8 @@ module _ (mcwBits mcwLiteral mmcBits mmcLiteral : Answer) where
       (entry 3 mmcBits (perSymbol mmcBits width)))
       (entry 4 mmcLiteral (mmcLiteral .estimate .«min_entropy»))
 
-  -- a refused one, "Then .. 5. Then, if none ran: 6."
+  -- 7 "first in the board figure"; a refused one, "Then .. 5. Then, if none ran: 6."
   unfoldable pub figureOf : ℕ → Figure
-  figureOf width = cond (eqb refusal 0) (cond allInRange (smallest width) (refusedFigure outOfRange)) (refusedFigure refusal)
+  figureOf width =
+      cond (noWidth width) (refusedFigure badWidth)
+      (cond (eqb refusal 0) (cond allInRange (smallest width) (refusedFigure outOfRange)) (refusedFigure refusal))

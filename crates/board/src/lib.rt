@@ -1,8 +1,10 @@
 // The board figure: the smallest min-entropy per symbol of the four estimates.
 use answer::Answer;
+use answer::BAD_WIDTH;
 use answer::DONE;
 use answer::NOT_RUN;
 use answer::OUT_OF_RANGE;
+use capture::bits::no_width;
 ghost use mathlib.Core.Path.{_≡_};
 ghost use mathlib.Core.Bool.{_&&_};
 ghost use Rattle.board.specs.Board.{allInRange, entry, figureOf, firstOf, inRange, perSymbol, refusal, refusalOf, refusedFigure, smaller, smallest};
@@ -96,11 +98,11 @@ fn smaller_of(a: Figure, b: Figure) -> Figure
     if b.value < a.value { b } else { a }
 }
 
-// A bit's entropy times the clamped width.
+// A bit's entropy times the width.
 fn per_symbol(a: Answer, width: u8) -> f64
     ensures { λ r. ⌜ r ≡ perSymbol a width ⌝ }
 {
-    a.estimate.min_entropy * (capture::bits::width_of(width) as f64)
+    a.estimate.min_entropy * (width as f64)
 }
 
 // The first refusal of the four.
@@ -148,7 +150,7 @@ fn smallest_of(
     smaller_of(smaller_of(smaller_of(first, second), third), fourth)
 }
 
-// The board figure: a refusal first, then an entropy out of range, then 6 where none ran.
+// The board figure: a width that is none first, then a refusal, then an entropy out of range, then 6 where none ran.
 pub fn board_figure(
     mcw_bits: Answer,
     mcw_literal: Answer,
@@ -158,6 +160,9 @@ pub fn board_figure(
 ) -> Figure
     ensures { λ r. ⌜ r ≡ figureOf «mcw_bits» «mcw_literal» «mmc_bits» «mmc_literal» «bits_per_symbol» ⌝ }
 {
+    if no_width(bits_per_symbol) {
+        return refused_figure(BAD_WIDTH);
+    }
     let refused = first_refusal(mcw_bits, mcw_literal, mmc_bits, mmc_literal);
     if refused != 0 {
         return refused_figure(refused);

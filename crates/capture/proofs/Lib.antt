@@ -1,5 +1,5 @@
 pub mod Bitstring
-pub mod Clamping
+pub mod Limits
 pub mod Reading
 pub mod Refusals
 pub mod Walking

@@ -31,21 +31,14 @@ wide-none (x ∷ s) (suc i) h g n =
     rw (le-leb x 1 (n 0 (zero-lt-suc i)))
     (ap suc (wide-none s i (le-of-suc-le-suc h) (le-of-suc-le-suc g) (λ j l. n (suc j) (omega arith))))
 
--- number 3 by the place that the code finds
-pub wide-is : (s : List ℕ) (v : ℕ) → wide s v ≡ ltb (tooWideAt s v) (length s)
+-- number 3 by the place that the code looks for
+wide-is : (s : List ℕ) (v : ℕ) → wide s v ≡ ltb (tooWideAt s v) (length s)
 wide-is s v = by-width (eqb v 1)
   where
     by-width : (b : Bool) → (b && ltb (firstWide s) (length s)) ≡ ltb (cond b (firstWide s) (length s)) (length s)
     by-width true = refl
     by-width false = sym (le-ltb (length s) (length s) (omega arith))
 
--- where w is the width, and v and place are as the code has them
-pub wide-found : (s : List ℕ) {w v place : ℕ} → v ≡ w → place ≡ tooWideAt s v → wide s w ≡ ltb place (length s)
-wide-found s {w} {v} e q = rw (q, ← e) (wide-is s v)
-
-pub wide-place : (s : List ℕ) (v : ℕ) → tooWideAt s v < length s → tooWideAt s v ≡ firstWide s
-wide-place s v = by-width (eqb v 1)
-  where
-    by-width : (b : Bool) → cond b (firstWide s) (length s) < length s → cond b (firstWide s) (length s) ≡ firstWide s
-    by-width true h = refl
-    by-width false h = omega arith
+-- by the place that it found
+pub wide-found : (s : List ℕ) (w : ℕ) {place : ℕ} → place ≡ tooWideAt s w → wide s w ≡ ltb place (length s)
+wide-found s w q = rw q (wide-is s w)

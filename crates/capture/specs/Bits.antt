@@ -33,7 +33,7 @@ unfoldable pub firstWide : List ℕ → ℕ
 firstWide [] = 0
 firstWide (x ∷ xs) = cond (leb x 1) (suc (firstWide xs)) 0
 
--- number 3: "width 1 (after clamping) and a symbol above 1"
+-- number 3: "width 1 .. and a symbol above 1"
 abbrev pub wide : List ℕ → ℕ → Bool
 wide symbols width = eqb width 1 && ltb (firstWide symbols) (length symbols)
 

@@ -1,8 +1,8 @@
--- How long a capture may be and how wide its symbols are taken to be. Definitions only.
-use Prim.Native.Nat.{ℕ, min, max}
-use mathlib.Core.Bool.{Bool}
+-- How long a capture may be, and how many bits its symbols have. Definitions only.
+use Prim.Native.Nat.{ℕ}
+use mathlib.Core.Bool.{Bool, _||_}
 use mathlib.Core.List.{List}
-use lib.Dec.{ltb}
+use lib.Dec.{eqb, ltb}
 use lib.ListN.{length}
 
 -- "more than 16,777,216 symbols" are too many
@@ -12,6 +12,6 @@ symbolLimit = 16777216
 abbrev pub overLimit : List ℕ → Bool
 overLimit symbols = ltb symbolLimit (length symbols)
 
--- "Width is clamped to 1..8, so 0 is 1."
-unfoldable pub widthOf : ℕ → ℕ
-widthOf w = max 1 (min 8 w)
+-- "Width 0 and widths above 8 are now refused"
+unfoldable pub noWidth : ℕ → Bool
+noWidth w = eqb w 0 || ltb 8 w

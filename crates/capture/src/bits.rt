@@ -1,6 +1,7 @@
 // The bits of a capture, highest first of each symbol.
 use crate::BitRead;
 use crate::Spot;
+use answer::BAD_WIDTH;
 use answer::DONE;
 use answer::TOO_LONG;
 use answer::TOO_SHORT;
@@ -10,7 +11,7 @@ ghost use Prim.Native.Nat.{_+_, _*_, _-_, _<_, _≤_};
 ghost use mathlib.Core.Bool.{_&&_};
 ghost use lib.Dec.{eqb, ltb};
 ghost use lib.ListN.{getD, length};
-ghost use Rattle.capture.specs.Limit.{symbolLimit, widthOf};
+ghost use Rattle.capture.specs.Limit.{noWidth, symbolLimit};
 ghost use Rattle.capture.specs.Bits.{bitAt, firstWide, tooWideAt};
 ghost use Rattle.capture.specs.inner.Spots.{nextSpot, spotBit, spotOf};
 ghost use Rattle.capture.specs.Reader.{bitRead, refusedBit};
@@ -25,17 +26,11 @@ pub fn wide(x: u8) -> usize
     x as usize
 }
 
-// Width is clamped to 1..8, so 0 is 1.
-pub fn width_of(width: u8) -> u32
-    ensures { λ r. ⌜ r ≡ widthOf width ⌝ }
+// Whether a width is none: 0, as a field that was left empty, or more bits than a byte has.
+pub fn no_width(width: u8) -> bool
+    ensures { λ r. ⌜ r ≡ noWidth width ⌝ }
 {
-    if width == 0 {
-        return 1;
-    }
-    if 8 < width {
-        return 8;
-    }
-    width as u32
+    if width == 0 { true } else { 8 < width }
 }
 
 // The spot of bit 0.
@@ -92,7 +87,7 @@ pub fn first_wide(symbols: &[u8]) -> usize
 }
 
 // Where the first symbol stands that is above what the width takes; the length where there is none.
-pub fn too_wide_at(symbols: &[u8], width: u32) -> usize
+pub fn too_wide_at(symbols: &[u8], width: u8) -> usize
     ensures { λ r. ⌜ r ≡ tooWideAt (now (symbols .entry)) width ⌝ }
 {
     if width == 1 {
@@ -113,7 +108,7 @@ fn refused_bit(number: u64, place: u64) -> BitRead
 }
 
 // Whether the symbol at a place is above what width 1 takes.
-fn is_wide(symbols: &[u8], width: u32, place: usize) -> bool
+fn is_wide(symbols: &[u8], width: u8, place: usize) -> bool
     requires { ⌜ (width ≡ 1 → place < length (now symbols)) ⌝ }
     ensures { λ r. ⌜ r ≡ (eqb width 1 && ltb 1 (getD (now (symbols .entry)) place 0)) ⌝ }
 {
@@ -144,16 +139,17 @@ pub fn bit(symbols: &[u8], width: u8, i: u64) -> BitRead
     if SYMBOL_LIMIT < symbols.len() {
         return refused_bit(TOO_LONG, 0);
     }
-    let w = width_of(width);
-    let per = w as usize;
+    if no_width(width) {
+        return refused_bit(BAD_WIDTH, 0);
+    }
     let place = i as usize;
-    if symbols.len() * per <= place {
+    if symbols.len() * (width as usize) <= place {
         return refused_bit(TOO_SHORT, 0);
     }
-    if is_wide(symbols, w, place) {
+    if is_wide(symbols, width, place) {
         return refused_bit(TOO_WIDE, i);
     }
-    let bit = bit_of(symbols, w, place);
+    let bit = bit_of(symbols, width as u32, place);
     BitRead {
         number: DONE,
         place: 0,

@@ -1,9 +1,10 @@
 // By which number a bitstring track refuses a capture, and what it then answers.
 use crate::bits::SYMBOL_LIMIT;
 use crate::bits::first_wide;
+use crate::bits::no_width;
 use crate::bits::too_wide_at;
-use crate::bits::width_of;
 use answer::Answer;
+use answer::BAD_WIDTH;
 use answer::DONE;
 use answer::NOT_RUN;
 use answer::TOO_LONG;
@@ -21,14 +22,16 @@ pub fn bits_refusal(symbols: &[u8], width: u8, least: usize, short: bool) -> u64
     if SYMBOL_LIMIT < symbols.len() {
         return TOO_LONG;
     }
-    let taken = width_of(width);
-    if symbols.len() * (taken as usize) < least {
+    if no_width(width) {
+        return BAD_WIDTH;
+    }
+    if symbols.len() * (width as usize) < least {
         return NOT_RUN;
     }
     if short {
         return TOO_SHORT;
     }
-    if too_wide_at(symbols, taken) < symbols.len() {
+    if too_wide_at(symbols, width) < symbols.len() {
         return TOO_WIDE;
     }
     DONE

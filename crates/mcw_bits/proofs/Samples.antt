@@ -9,7 +9,7 @@ use Rattle.capture.specs.Limit.{symbolLimit}
 use Rattle.capture.specs.inner.Spots.{spotOf, nextSpot, spotBit, Source}
 use Rattle.capture.specs.declared.Spot.{Spot}
 use Rattle.capture.proofs.Bitstring.{bits-length, bits-at, bit-small}
-use Rattle.capture.proofs.Clamping.{width-same, bits-small}
+use Rattle.capture.proofs.Limits.{source-short}
 use Rattle.capture.proofs.Walking.{spot-bit, spot-next, spot-after, spot-inside}
 
 -- a list of bits that is not too long
@@ -18,13 +18,10 @@ pub record Bits (s : List ℕ) : Type 0 where
   pub below : (i : ℕ) → i < length s → getD s i 0 < 2
 
 module _ {symbols : List ℕ} {width n : ℕ} (S : Source symbols width n) where
-  pub source-short : n < 4294967296
-  source-short = omega (arith, S .within, bits-small (length symbols) width (S .short) (sym (width-same width (S .some) (S .narrow))))
-
   pub source-bits : Bits (bitsOf symbols width n)
   source-bits =
       record {
-        short = omega (arith, bits-length symbols width n, source-short);
+        short = omega (arith, bits-length symbols width n, source-short S);
         below = λ i l. omega (arith, bits-at symbols width n i (omega (arith, bits-length symbols width n)), bit-small symbols width i);
       }
 

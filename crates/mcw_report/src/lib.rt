@@ -1,4 +1,4 @@
-// The MultiMCW report: standard input as a literal capture, and one line of what it comes to.
+// The MultiMCW report: standard input as a literal capture, which has no width, and one line of what it comes to.
 use answer::Answer;
 use answer::TOO_LONG;
 use libc::STDIN_FILENO;

@@ -3,7 +3,7 @@ use Prim.Native.Nat.{ℕ, suc, _+_, _*_, _-_, _%_, _≤_, _<_, min}
 use mathlib.Core.Path.{_≡_, refl, sym, ap, _∙_}
 use mathlib.Core.List.{List, _++_}
 use native.Mathlib.Omega.{arith}
-use native.Mathlib.Nat.{lt-of-lt-of-le, lt-of-le-of-lt}
+use native.Mathlib.Nat.{lt-of-lt-of-le}
 use native.Mathlib.Numerals.{add-one}
 use lib.ListN.{getD, length, take, drop, replicate, length-append, length-replicate, List·getD-eq-default}
 use lib.Seq.{length-take-le, drop-at}
@@ -13,7 +13,7 @@ use Rattle.capture.specs.Limit.{symbolLimit}
 use Rattle.capture.specs.Bits.{bitsOf}
 use Rattle.capture.specs.inner.Spots.{spotOf, nextSpot, spotBit, Source}
 use Rattle.capture.specs.declared.Spot.{Spot}
-use Rattle.capture.proofs.Clamping.{width-same, bits-small}
+use Rattle.capture.proofs.Limits.{source-short}
 use Rattle.capture.proofs.Walking.{spot-bit, spot-next, spot-after, spot-inside}
 use Rattle.race.specs.Race.{silent, judge, scored, sample}
 use Rattle.race.specs.inner.Held.{silence, heardFrom, after, tallied, counterLimit, Countable, Scorable}
@@ -61,10 +61,6 @@ same-tally : {a b c x y z : ℕ} → a ≡ x → b ≡ y → c ≡ z
 same-tally e f g = cc
 
 module _ {symbols : List ℕ} {width n : ℕ} (S : Source symbols width n) where
-  short-run : n < 4294967296
-  short-run =
-      lt-of-le-of-lt (S .within) (bits-small (length symbols) width (S .short) (sym (width-same width (S .some) (S .narrow))))
-
   -- from cleared counters
   pub running-starts : {counters : List ℕ} {spot : Spot} → counters ≡ replicate (size levels) 0 ++ drop (size levels) counters → spot ≡ spotOf width 0
       → Running symbols width n counters counters (replicate levels silence) (replicate levels 0) 0 (record { hits = 0; run = 0; longest = 0 })
@@ -128,7 +124,7 @@ module _ {symbols : List ℕ} {width n : ℕ} {counters₀ counters gs scores : 
         stands = record {
           bits = are-bits symbols width n;
           inside = omega (arith, P .inside, bits-length symbols width n);
-          short = omega (arith, bits-length symbols width n, short-run (P .source));
+          short = omega (arith, bits-length symbols width n, source-short (P .source));
           bit-is = bit-here;
           recent-is = P .running .recent-is;
         };
@@ -151,7 +147,7 @@ module _ {symbols : List ℕ} {width n : ℕ} {counters₀ counters gs scores : 
   winner-low = race-winner (P .running .raced) (omega arith)
 
   few : i - firstPlace < counterLimit
-  few = omega (arith, P .inside, short-run (P .source))
+  few = omega (arith, P .inside, source-short (P .source))
 
   pub can-count : Countable t x
   can-count = race-countable (P .running .raced) x (omega (arith, bit-low)) few

@@ -1,18 +1,18 @@
 -- What each track answers, by the number it is refused with. Assumes nothing.
 use mathlib.Core.Path.{_≡_, refl, ap, sym, _∙_}
-use mathlib.Core.Bool.{Bool, true, false, cond}
+use mathlib.Core.Bool.{true, false}
 use mathlib.Core.List.{List}
 use Prim.Native.Nat.{ℕ, _*_, _-_, _≤_}
-use native.Mathlib.Omega.{arith}
 use lib.Dec.{eqb, ltb}
 use lib.ListN.{length}
 use borrow.Author.Tests.{eq-eqb, ne-eqb, ltb-false}
+use Rattle.answer.proofs.Order.{passed}
 use Rattle.answer.specs.Numbers.{done, tooLong, tooShort, notRun}
 use Rattle.answer.specs.Refused.{refused}
 use Rattle.answer.specs.declared.Answer.{Answer}
 use Rattle.alphabet.specs.Alphabet.{dense, distinct, written}
 use Rattle.capture.specs.Bits.{bitsOf}
-use Rattle.capture.specs.Limit.{overLimit, symbolLimit, widthOf}
+use Rattle.capture.specs.Limit.{overLimit, symbolLimit}
 use Rattle.capture.specs.Refusals.{refusedOn}
 use Rattle.capture.proofs.Bitstring.{bits-length}
 use Rattle.prediction.specs.Estimate.{estimateOf}
@@ -34,12 +34,11 @@ module _ (s : List ℕ) (w : ℕ) {n : ℕ} (e : n ≡ bitsNumber s w) where
   unfolding mcwBits
   bits-refused d p = rw (ne-eqb (bitsNumber s w) 0 (λ q. d (e ∙ q))) (p ∙ ap (refusedOn s) e)
 
-  -- v is the width as the code has it
-  pub bits-ran : n ≡ 0 → {v : ℕ} → v ≡ widthOf w → {r : Counts} → r ≡ countsOf (bitsOf s v (length s * v))
-      → estimateOf (r .c) (length s * v - firstPlace) (r .longest) 2 ≡ mcwBits s w
+  pub bits-ran : n ≡ 0 → {r : Counts} → r ≡ countsOf (bitsOf s w (length s * w))
+      → estimateOf (r .c) (length s * w - firstPlace) (r .longest) 2 ≡ mcwBits s w
   unfolding mcwBits
-  bits-ran z {v} ve re =
-      rw (eq-eqb (bitsNumber s w) 0 (sym e ∙ z), ← ve) (estimate-is (bitsOf s v (length s * v)) 2 re (sym (bits-length s v (length s * v))) refl)
+  bits-ran z re =
+      rw (eq-eqb (bitsNumber s w) 0 (sym e ∙ z)) (estimate-is (bitsOf s w (length s * w)) 2 re (sym (bits-length s w (length s * w))) refl)
 
 -- ---- the literal track
 
@@ -49,21 +48,16 @@ pub record Taken (s out : List ℕ) : Type 0 where
   pub many : leastSamples ≤ length s
   pub room : length s ≤ length out
 
-no-test : (long few short : Bool) → cond long tooLong (cond few notRun (cond short tooShort done)) ≡ 0
-    → (long ≡ false) × (few ≡ false) × (short ≡ false)
-no-test true _ _ h = absurd (omega arith)
-no-test false true _ h = absurd (omega arith)
-no-test false false true h = absurd (omega arith)
-no-test false false false h = (refl, refl, refl)
-
 module _ (s out : List ℕ) {n : ℕ} (e : n ≡ literalNumber s out) where
   pub literal-taken : n ≡ 0 → Taken s out
   literal-taken z =
-      let t = no-test (overLimit s) (ltb (length s) leastSamples) (ltb (length out) (length s)) (sym e ∙ z) in
+      let one = passed (overLimit s) tooLong _ tt (sym e ∙ z) in
+      let six = passed (ltb (length s) leastSamples) notRun _ tt (one .1) in
+      let two = passed (ltb (length out) (length s)) tooShort _ tt (six .1) in
       record {
-        fits = ltb-false symbolLimit (length s) (t .0);
-        many = ltb-false (length s) leastSamples (t .1);
-        room = ltb-false (length out) (length s) (t .2);
+        fits = ltb-false symbolLimit (length s) (one .0);
+        many = ltb-false (length s) leastSamples (six .0);
+        room = ltb-false (length out) (length s) (two .0);
       }
 
   -- an answer and an output

@@ -11,10 +11,10 @@ use borrow.Author.Tests.{ltb-true, ltb-false, le-ltb, ne-eqb}
 use Rattle.answer.specs.Numbers.{done}
 use Rattle.alphabet.specs.Alphabet.{dense, distinct}
 use Rattle.capture.specs.Bits.{bitsOf}
-use Rattle.capture.specs.Limit.{symbolLimit, widthOf}
+use Rattle.capture.specs.Limit.{symbolLimit}
 use Rattle.alphabet.proofs.Alphabets.{Bytes}
 use Rattle.capture.proofs.Bitstring.{bits-length}
-use Rattle.capture.proofs.Clamping.{width-most}
+use Rattle.capture.proofs.Limits.{Width}
 use Rattle.counts.specs.Counts.{countLimit, impossibleCounts}
 use Rattle.prediction.specs.Estimate.{estimateOf, estimatedOf}
 use Rattle.race.proofs.Cases.{tested}
@@ -51,11 +51,11 @@ module _ (s : List ℕ) (k : ℕ) (least : 1 ≤ k) (most : k ≤ 256) (few : le
   unfolding estimateOf estimatedOf
   ran = rw counts-can-be
 
-pub bits-ran : (s : List ℕ) (w : ℕ) → length s ≤ symbolLimit → estimated (bitsOf s (widthOf w) (length s * widthOf w)) 2 .number ≡ done
-bits-ran s w fits =
-    let n = length s * widthOf w in
-    let l : n ≤ countLimit = le-trans (le-trans (mul-le-mul-right (widthOf w) fits) (mul-le-mul-left symbolLimit (width-most w))) limits in
-    ran (bitsOf s (widthOf w) n) 2 (omega arith) (omega arith) (omega (arith, bits-length s (widthOf w) n))
+pub bits-ran : (s : List ℕ) (w : ℕ) → length s ≤ symbolLimit → Width w → estimated (bitsOf s w (length s * w)) 2 .number ≡ done
+bits-ran s w fits width =
+    let n = length s * w in
+    let l : n ≤ countLimit = le-trans (le-trans (mul-le-mul-right w fits) (mul-le-mul-left symbolLimit (width .narrow))) limits in
+    ran (bitsOf s w n) 2 (omega arith) (omega arith) (omega (arith, bits-length s w n))
 
 literal-ran : (s : List ℕ) → Bytes s → 0 < length s → length s ≤ symbolLimit → estimated (dense s) (distinct s) .number ≡ done
 literal-ran s bytes some fits =

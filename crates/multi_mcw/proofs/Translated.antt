@@ -10,7 +10,7 @@ use Rattle.alphabet.specs.Alphabet.{alphabetOf, dense, distinct, firstSight, ou
 use Rattle.capture.specs.Limit.{symbolLimit}
 use Rattle.alphabet.specs.declared.Alphabet.{Alphabet}
 use Rattle.alphabet.proofs.Alphabets.{Bytes, dense-below}
-use Rattle.capture.proofs.Clamping.{limit-small}
+use Rattle.capture.proofs.Limits.{limit-small}
 use Rattle.alphabet.proofs.Distinct.{distinct-le}
 use Rattle.mcw_symbols.specs.inner.Keys.{Samples}
 

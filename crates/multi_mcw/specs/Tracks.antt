@@ -1,4 +1,4 @@
--- What MultiMCW answers on each track, refusals in the order 1, 6, 2, 3. Definitions only.
+-- What MultiMCW answers on each track, refusals in the order 1, 7, 6, 2, 3. Definitions only.
 use Prim.Native.Nat.{ℕ}
 use mathlib.Core.Bool.{cond, false}
 use mathlib.Core.List.{List}
@@ -9,7 +9,7 @@ use Rattle.answer.specs.Refused.{refused}
 use Rattle.answer.specs.declared.Answer.{Answer}
 use Rattle.alphabet.specs.Alphabet.{dense, distinct, written}
 use Rattle.capture.specs.Bits.{bitCount, bitsOf}
-use Rattle.capture.specs.Limit.{overLimit, widthOf}
+use Rattle.capture.specs.Limit.{overLimit}
 use Rattle.capture.specs.Refusals.{bitsRefusal, refusedOn}
 use Rattle.prediction.specs.Estimate.{estimateOf}
 use Rattle.race.specs.Race.{hits, longest, predictions}
@@ -25,10 +25,11 @@ bitsNumber symbols w = bitsRefusal symbols w leastSamples false
 
 unfoldable pub mcwBits : List ℕ → ℕ → Answer
 mcwBits symbols w =
-    cond (eqb (bitsNumber symbols w) done) (estimated (bitsOf symbols (widthOf w) (bitCount symbols (widthOf w))) 2)
+    cond (eqb (bitsNumber symbols w) done) (estimated (bitsOf symbols w (bitCount symbols w)) 2)
     (refusedOn symbols (bitsNumber symbols w))
 
--- the number by which the literal track is refused, and `done` where it is not; "the literal tracks need an output as long as the capture"
+-- the number by which the literal track, which has no width, is refused, and `done` where it is not; "the literal tracks need an output as long as
+-- the capture"
 abbrev pub literalNumber : List ℕ → List ℕ → ℕ
 literalNumber symbols out =
     cond (overLimit symbols) tooLong

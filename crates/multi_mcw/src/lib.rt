@@ -6,7 +6,6 @@ use answer::TOO_LONG;
 use answer::TOO_SHORT;
 use answer::refused_as;
 use capture::bits::SYMBOL_LIMIT;
-use capture::bits::width_of;
 use capture::refusal::bits_refusal;
 use capture::refusal::refused_on;
 use dense::dense_alphabet;
@@ -35,9 +34,8 @@ pub fn multi_mcw(symbols: &[u8], bits_per_symbol: u8) -> Answer
     if number != DONE {
         return refused_on(symbols, number);
     }
-    let width = width_of(bits_per_symbol);
-    let n = symbols.len() * (width as usize);
-    let r = mcw_bits(symbols, width, n);
+    let n = symbols.len() * (bits_per_symbol as usize);
+    let r = mcw_bits(symbols, bits_per_symbol as u32, n);
     prediction_estimate(r.c, (n - FIRST) as u64, r.longest, 2)
 }
 
@@ -67,7 +65,7 @@ fn mcw_translated(s: &[u8], k: u64) -> Counts
     mcw_symbols(s, k as usize)
 }
 
-// The literal track. The symbols are translated into `out`.
+// The literal track, which has no width: a sample is a symbol. The symbols are translated into `out`.
 pub fn multi_mcw_literal(symbols: &[u8], out: &mut [u8]) -> Answer
     ensures { λ r. ⌜ (r ≡ mcwLiteral (now (symbols .entry)) (now (out .entry)))
         × (now (out .exit) ≡ mcwLiteralOutput (now (symbols .entry)) (now (out .entry))) ⌝ }

@@ -9,7 +9,6 @@ use lib.ListN.{length}
 use Rattle.answer.specs.Numbers.{done}
 use Rattle.answer.specs.declared.Answer.{Answer}
 use Rattle.capture.specs.Bits.{bitsOf}
-use Rattle.capture.specs.Limit.{widthOf}
 use Rattle.capture.specs.Refusals.{refusedOn}
 use Rattle.mmc_bits.specs.Levels.{levels, cap}
 use Rattle.mmc_bits.specs.Space.{final}
@@ -22,10 +21,9 @@ module _ (s : List ℕ) (w : ℕ) (space : List ℕ) {n : ℕ} (e : n ≡ bitsNu
       let f : eqb (bitsNumber s w space) done ≡ false = ne-eqb (bitsNumber s w space) 0 (λ q. d (e ∙ q)) in
       (rw f (p ∙ ap (refusedOn s) e), rw f)
 
-  -- v is the width as the code has it
-  pub bits-ran : n ≡ 0 → {v : ℕ} → v ≡ widthOf w → {r : Answer} {space′ : List ℕ} → r ≡ bitsEstimate (bitsOf s v (length s * v))
-      → space′ ≡ final levels cap (bitsOf s v (length s * v)) space → (r ≡ mmcBits s w space) × (space′ ≡ mmcBitsSpace s w space)
+  pub bits-ran : n ≡ 0 → {r : Answer} {space′ : List ℕ} → r ≡ bitsEstimate (bitsOf s w (length s * w))
+      → space′ ≡ final levels cap (bitsOf s w (length s * w)) space → (r ≡ mmcBits s w space) × (space′ ≡ mmcBitsSpace s w space)
   unfolding mmcBits mmcBitsSpace
-  bits-ran z v p q =
+  bits-ran z p q =
       let f : eqb (bitsNumber s w space) done ≡ true = eq-eqb (bitsNumber s w space) 0 (sym e ∙ z) in
-      (rw (f, ← v) p, rw (f, ← v) q)
+      (rw f p, rw f q)

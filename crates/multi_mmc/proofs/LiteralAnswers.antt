@@ -1,12 +1,13 @@
 -- What the literal track answers and leaves in lent memory, by the number it is refused with. Assumes nothing.
-use mathlib.Core.Path.{_≡_, refl, ap, sym, _∙_}
-use mathlib.Core.Bool.{Bool, true, false, cond, _||_}
+use mathlib.Core.Path.{_≡_, ap, sym, _∙_}
+use mathlib.Core.Bool.{true, false, _||_}
 use mathlib.Core.List.{List}
+use mathlib.Mathlib.Data.Bool.Basic.{or-eq-false-eq-eq-false-and-eq-false}
 use Prim.Native.Nat.{ℕ, _≤_, _<_}
-use native.Mathlib.Omega.{arith}
 use borrow.Author.Tests.{eq-eqb, ne-eqb, le-leb, lt-leb, ltb-false}
 use lib.Dec.{eqb, ltb}
 use lib.ListN.{length}
+use Rattle.answer.proofs.Order.{passed}
 use Rattle.answer.specs.Numbers.{done, tooLong, tooShort, notRun}
 use Rattle.answer.specs.Refused.{refused}
 use Rattle.answer.specs.declared.Answer.{Answer}
@@ -34,14 +35,6 @@ pub record Taken (s out space : List ℕ) : Type 0 where
   pub room : length s ≤ length out
   pub work : needed s ≤ length space
 
-no-test : (long few short tight : Bool) → cond long tooLong (cond few notRun (cond (short || tight) tooShort done)) ≡ 0
-    → (long ≡ false) × (few ≡ false) × (short ≡ false) × (tight ≡ false)
-no-test true _ _ _ h = absurd (omega arith)
-no-test false true _ _ h = absurd (omega arith)
-no-test false false true _ h = absurd (omega arith)
-no-test false false false true h = absurd (omega arith)
-no-test false false false false h = (refl, refl, refl, refl)
-
 pub two-needed : (s : List ℕ) → distinct s ≤ 2 → needed s ≡ BitSpace.size levels
 unfolding needed
 two-needed s l = rw (le-leb (distinct s) 2 l)
@@ -54,12 +47,15 @@ module _ (s out space : List ℕ) {n : ℕ} (e : n ≡ literalNumber s out space
   pub literal-taken : n ≡ 0 → Taken s out space
   unfolding literalNumber
   literal-taken z =
-      let t = no-test (overLimit s) (ltb (length s) leastSamples) (ltb (length out) (length s)) (ltb (length space) (needed s)) (sym e ∙ z) in
+      let one = passed (overLimit s) tooLong _ tt (sym e ∙ z) in
+      let six = passed (ltb (length s) leastSamples) notRun _ tt (one .1) in
+      let two = passed (ltb (length out) (length s) || ltb (length space) (needed s)) tooShort _ tt (six .1) in
+      let lent = or-eq-false-eq-eq-false-and-eq-false (ltb (length out) (length s)) _ .0 (two .0) in
       record {
-        fits = ltb-false symbolLimit (length s) (t .0);
-        many = ltb-false (length s) leastSamples (t .1);
-        room = ltb-false (length out) (length s) (t .2);
-        work = ltb-false (length space) (needed s) (t .3);
+        fits = ltb-false symbolLimit (length s) (one .0);
+        many = ltb-false (length s) leastSamples (six .0);
+        room = ltb-false (length out) (length s) (lent .0);
+        work = ltb-false (length space) (needed s) (lent .1);
       }
 
   abbrev Answered : Answer → List ℕ → List ℕ → Type 0

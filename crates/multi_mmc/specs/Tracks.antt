@@ -1,4 +1,4 @@
--- What MultiMMC answers on each track, refusals in the order 1, 6, 2, 3, and what it leaves in lent memory. Definitions only.
+-- What MultiMMC answers on each track, refusals in the order 1, 7, 6, 2, 3, and what it leaves in lent memory. Definitions only.
 use Prim.Native.Nat.{ℕ}
 use mathlib.Core.Bool.{Bool, cond, _||_}
 use mathlib.Core.List.{List}
@@ -9,7 +9,7 @@ use Rattle.answer.specs.Refused.{refused}
 use Rattle.answer.specs.declared.Answer.{Answer}
 use Rattle.alphabet.specs.Alphabet.{sorted, distinct, written}
 use Rattle.capture.specs.Bits.{bitCount, bitsOf}
-use Rattle.capture.specs.Limit.{overLimit, widthOf}
+use Rattle.capture.specs.Limit.{overLimit}
 use Rattle.capture.specs.Refusals.{bitsRefusal, refusedOn}
 use Rattle.prediction.specs.Estimate.{estimateOf}
 use Rattle.race.specs.Race.{Event, hits, longest, predictions}
@@ -36,7 +36,7 @@ storeEstimate s k = estimated (Store.raceOf levels cap s) s k
 
 -- the bitstring track: "A sample is a bit", "Binary MultiMMC needs 262,140 u32 counters"
 abbrev pub bitsOfCapture : List ℕ → ℕ → List ℕ
-bitsOfCapture symbols w = bitsOf symbols (widthOf w) (bitCount symbols (widthOf w))
+bitsOfCapture symbols w = bitsOf symbols w (bitCount symbols w)
 
 unfoldable pub bitsNumber : List ℕ → ℕ → List ℕ → ℕ
 bitsNumber symbols w counters = bitsRefusal symbols w leastSamples (ltb (length counters) (BitSpace.size levels))

@@ -6,7 +6,6 @@ use crate::refusal::literal_refusal;
 use answer::Answer;
 use answer::DONE;
 use answer::refused_as;
-use capture::bits::width_of;
 use capture::refusal::bits_refusal;
 use capture::refusal::refused_on;
 use rising::value_sorted_alphabet;
@@ -35,12 +34,12 @@ pub fn multi_mmc(symbols: &[u8], bits_per_symbol: u8, counters: &mut [u32]) -> A
     if number != DONE {
         return refused_on(symbols, number);
     }
-    let width = width_of(bits_per_symbol);
-    let n = symbols.len() * (width as usize);
-    bits_estimate(symbols, width, n, counters)
+    let n = symbols.len() * (bits_per_symbol as usize);
+    bits_estimate(symbols, bits_per_symbol as u32, n, counters)
 }
 
-// The literal track. The symbols are translated into `out`; the two numbers of at most two values are the bits.
+// The literal track, which has no width: a sample is a symbol. The symbols are translated into `out`; the two numbers of at
+// most two values are the bits.
 pub fn multi_mmc_literal(symbols: &[u8], out: &mut [u8], space: &mut [u32]) -> Answer
     ensures { λ r. ⌜ (r ≡ mmcLiteral (now (symbols .entry)) (now (out .entry)) (now (space .entry)))
         × (now (out .exit) ≡ mmcLiteralOutput (now (symbols .entry)) (now (out .entry)) (now (space .entry)))

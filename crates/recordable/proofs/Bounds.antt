@@ -13,7 +13,7 @@ use Rattle.answer.specs.Refused.{minusOne}
 use Rattle.answer.specs.declared.Answer.{Answer}
 use Rattle.answer.specs.declared.Estimate.{Estimate}
 use Rattle.bisect.specs.Bisection.{roundLimit}
-use Rattle.capture.proofs.Clamping as capture
+use Rattle.capture.proofs.Limits as capture
 use Rattle.capture.specs.Limit.{symbolLimit}
 use Rattle.counts.proofs.Refusals.{counts-can-be}
 use Rattle.counts.proofs.Whole as counts

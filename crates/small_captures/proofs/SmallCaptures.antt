@@ -11,7 +11,7 @@ use lib.ListN.{length}
 use Rattle.answer.specs.declared.Answer.{Answer}
 use Rattle.alphabet.specs.Alphabet.{distinct, distinctBelow, has, rising, sorted}
 use Rattle.capture.specs.Bits.{bitAt, bitsOf, firstWide, table}
-use Rattle.capture.specs.Limit.{symbolLimit, widthOf}
+use Rattle.capture.specs.Limit.{noWidth, symbolLimit}
 use Rattle.mmc_bits.specs.Counters as C
 use Rattle.mmc_bits.specs.Guesses as G
 use Rattle.mmc_bits.specs.Levels.{levels, cap, firstPlace}
@@ -86,7 +86,7 @@ module _ (out space : List ℕ) (out-room : 6 ≤ length out) (room : storeSize 
 
   pub nine-rows : All (Right out space) rows
   unfolding
-      bitsNumber literalNumber needed symbolLimit widthOf firstWide countLimit impossibleCounts mmcBits mcwBits
+      bitsNumber literalNumber needed symbolLimit noWidth firstWide countLimit impossibleCounts mmcBits mcwBits
       bitAt bitsOf table distinct distinctBelow has rising
       C.before C.context C.pair C.places C.occurs C.fresh C.ahead C.counter G.verdict G.own G.guess
       SC.same SC.present SC.count SC.largest SC.predicted SL.whenFound SL.whenAbsent SL.found SL.level SL.guess

@@ -1,5 +1,5 @@
--- Every answer of the four estimators survives the trip: it is an estimate, or a refusal by one of the numbers 1, 6, 2 and 3. The place that 3 names is
--- inside a capture that is not over the limit. Assumes nothing.
+-- Every answer of the four estimators survives the trip: it is an estimate, or a refusal by one of the numbers 1, 7, 6, 2 and 3. The place that 3 names
+-- is inside a capture that is not over the limit. Assumes nothing.
 use mathlib.Core.Path.{_≡_, refl, sym, subst}
 use mathlib.Core.Bool.{Bool, true, false, cond, _||_}
 use mathlib.Core.List.{List}
@@ -10,11 +10,12 @@ use lib.Dec.{T, eqb, ltb, ltb→lt}
 use lib.Ieee.Fits.{and-r}
 use lib.ListN.{length}
 use Rattle.alphabet.specs.Alphabet.{dense, distinct, sorted}
-use Rattle.answer.specs.Numbers.{done, tooLong, tooShort, tooWide, notRun, given}
+use Rattle.answer.proofs.Order.{first-of}
+use Rattle.answer.specs.Numbers.{done, tooLong, tooShort, tooWide, notRun, badWidth, given}
 use Rattle.answer.specs.Refused.{refused, refusedAt}
 use Rattle.answer.specs.declared.Answer.{Answer}
 use Rattle.capture.specs.Bits.{bitCount, bitsOf, firstWide, wide}
-use Rattle.capture.specs.Limit.{overLimit, symbolLimit, widthOf}
+use Rattle.capture.specs.Limit.{noWidth, overLimit, symbolLimit}
 use Rattle.capture.specs.Refusals.{bitsRefusal, refusedOn}
 use Rattle.mcw_bits.specs.Mcw.{leastSamples}
 use Rattle.mmc_bits.specs.Levels.{levels}
@@ -42,6 +43,10 @@ too-long : Survives (refused tooLong)
 unfolding given placed
 too-long = refusal-survives tooLong 0 refl refl refl
 
+bad-width : Survives (refused badWidth)
+unfolding given placed
+bad-width = refusal-survives badWidth 0 refl refl refl
+
 not-run : Survives (refused notRun)
 unfolding given placed
 not-run = refusal-survives notRun 0 refl refl refl
@@ -61,14 +66,6 @@ wide-place symbols width o w =
     (ltb→lt (firstWide symbols) (length symbols) (and-r (eqb width 1) (ltb (firstWide symbols) (length symbols)) (subst T (sym w) tt)))
     (ltb-false symbolLimit (length symbols) o)
 
--- the first of 1, 6 and 2 that holds, and n where none does
-first-of : (P : ℕ → Type 0) → P tooLong → P notRun → P tooShort → (over few short : Bool) (n : ℕ) → (over ≡ false → P n)
-    → P (cond over tooLong (cond few notRun (cond short tooShort n)))
-first-of P l r s true few short n h = l
-first-of P l r s false true short n h = r
-first-of P l r s false false true n h = s
-first-of P l r s false false false n h = h refl
-
 -- what a track answers by its number survives, where its estimate is a
 abbrev Answered : Answer → (ℕ → Answer) → ℕ → Type 0
 Answered a refusal n = Survives (cond (eqb n done) a (refusal n))
@@ -76,19 +73,19 @@ Answered a refusal n = Survives (cond (eqb n done) a (refusal n))
 module _ {a : Answer} (s : Survives a) where
   bits-answered : (symbols : List ℕ) (w least : ℕ) (short : Bool) → Answered a (refusedOn symbols) (bitsRefusal symbols w least short)
   bits-answered symbols w least short =
-      first-of (Answered a (refusedOn symbols)) too-long not-run too-short
-      (overLimit symbols)
-      (ltb (bitCount symbols (widthOf w)) least)
-      short
-      (cond (wide symbols (widthOf w)) tooWide done)
-      (λ o. by-wide o (wide symbols (widthOf w)) refl)
+      let P = Answered a (refusedOn symbols) in
+      first-of P too-long (overLimit symbols)
+      (λ o. first-of P bad-width (noWidth w)
+      (λ _. first-of P not-run (ltb (bitCount symbols w) least) (λ _. first-of P too-short short (λ _. by-wide o (wide symbols w) refl))))
     where
-      by-wide : overLimit symbols ≡ false → (b : Bool) → wide symbols (widthOf w) ≡ b → Answered a (refusedOn symbols) (cond b tooWide done)
-      by-wide o true e = too-wide (firstWide symbols) (wide-place symbols (widthOf w) o e)
+      by-wide : overLimit symbols ≡ false → (b : Bool) → wide symbols w ≡ b → Answered a (refusedOn symbols) (cond b tooWide done)
+      by-wide o true e = too-wide (firstWide symbols) (wide-place symbols w o e)
       by-wide o false e = s
 
   literal-answered : (over few short : Bool) → Answered a refused (cond over tooLong (cond few notRun (cond short tooShort done)))
-  literal-answered over few short = first-of (Answered a refused) too-long not-run too-short over few short done (λ o. s)
+  literal-answered over few short =
+      let P = Answered a refused in
+      first-of P too-long over (λ _. first-of P not-run few (λ _. first-of P too-short short (λ _. s)))
 
 -- ---- MultiMCW
 mcw-estimate-survives : (s : List ℕ) (k : ℕ) → Survives (Mcw.estimated s k)
@@ -97,7 +94,7 @@ mcw-estimate-survives s k = estimate-survives _ _ _ _
 pub mcw-bits-survives : (symbols : List ℕ) (w : ℕ) → Survives (mcwBits symbols w)
 unfolding mcwBits
 mcw-bits-survives symbols w =
-    bits-answered (mcw-estimate-survives (bitsOf symbols (widthOf w) (bitCount symbols (widthOf w))) 2) symbols w leastSamples false
+    bits-answered (mcw-estimate-survives (bitsOf symbols w (bitCount symbols w)) 2) symbols w leastSamples false
 
 pub mcw-literal-survives : (symbols out : List ℕ) → Survives (mcwLiteral symbols out)
 unfolding mcwLiteral

@@ -1,18 +1,13 @@
--- `board::per_symbol` meets its contract. Assumes nothing.
+-- `board::per_symbol` meets its contract. A width fits a double as it is. Assumes nothing.
+use mathlib.Core.Path.{refl}
 use Rattle.board.specs.Board.{perSymbol}
 use borrow.Author.Needs.{needs}
 use Rattle.board.proofs.per_symbol.Statement.{statement}
 use Rattle.board.proofs.per_symbol.Tie as tie
 
-width-of-requires : tie.Need-width-of-requires
-width-of-requires c κs = search needs
-
-int-to-float-result : tie.Need-int-to-float-result
-int-to-float-result c = search needs
-
 returns : tie.Need-returns
 unfolding perSymbol
-returns c = rw (c .before .before .width-of .ensures)
+returns c = refl
 
 pub per-symbol-spec : {M : Type 1} → statement M
-per-symbol-spec = tie.close (tie.spec width-of-requires int-to-float-result returns)
+per-symbol-spec = tie.close (tie.spec (λ c. search needs) returns)

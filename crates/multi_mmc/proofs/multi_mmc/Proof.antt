@@ -7,7 +7,7 @@ use borrow.Author.Tests.{ltb-false}
 use denote.Ref.{now}
 use lib.Dec.{ltb}
 use lib.ListN.{length}
-use Rattle.capture.proofs.Clamping.{bits-small}
+use Rattle.capture.proofs.Limits.{source-short}
 use Rattle.capture.proofs.Refusals.{Taken, taken, taken-source}
 use Rattle.mmc_bits.specs.Levels.{levels}
 use Rattle.mmc_bits.specs.Space.{size}
@@ -38,21 +38,17 @@ returns c =
     bits-refused (now (a .symbols)) (a .bits-per-symbol) (now (a .counters)) (number n) (c .before .if1 .taken) (c .refused-on .ensures)
 
 mul-n : tie.Need-mul-n
-mul-n c = omega (arith, bits-small _ _ (ran (c .before) .fits) (c .width-of .ensures))
+mul-n c = omega (arith, source-short (taken-source (ran c)))
 
 bits-estimate-requires : tie.Need-bits-estimate-requires
-bits-estimate-requires c κs =
-    let w = c .before in
-    let t = ran (w .before) in
-    (rw (w .width-of .ensures) (t .many), taken-source t (w .width-of .ensures), ltb-false _ _ (t .room))
+bits-estimate-requires c κs = let t = ran (c .before) in (t .many, taken-source t, ltb-false _ _ (t .room))
 
 returns-2 : tie.Need-returns-2
 returns-2 c =
     let e = c .before .before in
-    let w = e .before .before in
-    let n = w .before .before in
+    let n = e .before .before .before in
     let a = start n .args in
-    bits-ran (now (a .symbols)) (a .bits-per-symbol) (now (a .counters)) (number n) (w .before .if1 .left) (w .width-of .ensures)
+    bits-ran (now (a .symbols)) (a .bits-per-symbol) (now (a .counters)) (number n) (e .before .before .if1 .left)
     (e .bits-estimate .ensures .0) (e .bits-estimate .ensures .1)
 
 pub multi-mmc-spec : {M : Type 1} → statement M
@@ -62,8 +58,6 @@ multi-mmc-spec =
     (λ c κs. search needs)
     (λ c κs. search needs)
     returns
-    (λ c κs. search needs)
-    (λ c. search needs)
     mul-n
     bits-estimate-requires
     (λ c. search needs)

@@ -2,7 +2,7 @@
 use borrow.Author.Needs.{needs}
 use borrow.Author.Tests.{eq-eqb, ne-eqb}
 use native.Mathlib.Omega.{arith}
-use Rattle.capture.proofs.Clamping.{limit-small}
+use Rattle.capture.proofs.Limits.{limit-small}
 use Rattle.capture.proofs.bits.next_spot.Statement.{statement}
 use Rattle.capture.proofs.bits.next_spot.Tie as tie
 

@@ -9,13 +9,14 @@ use lib.ListN.{length, getD}
 use Rattle.capture.specs.Bits.{bitsOf}
 use Rattle.capture.specs.inner.Spots.{spotOf}
 use Rattle.capture.proofs.Bitstring.{bits-length}
+use Rattle.capture.proofs.Limits.{source-short}
 use Rattle.race.specs.inner.Held.{counterLimit, heardFrom}
 use Rattle.mcw_bits.specs.inner.Ones.{AllOnes, Ring, majoritiesOf}
 use Rattle.mcw_bits.specs.inner.Say.{sayings}
 use Rattle.mcw_bits.specs.declared.Four.{Four}
 use Rattle.mcw_bits.proofs.Place.{RacedAt, mcw-starts, mcw-winner, mcw-scores, mcw-countable, mcw-leadable, mcw-step, mcw-counts}
 use Rattle.mcw_bits.proofs.Ones.{ring-start, ring-next, ones-start, ones-small, bits-symbols, votes-heard, all-roll, all-rolled}
-use Rattle.mcw_bits.proofs.Samples.{source-short, source-bits, spot-asks, spot-has, next-asks, spot-goes}
+use Rattle.mcw_bits.proofs.Samples.{source-bits, spot-asks, spot-has, next-asks, spot-goes}
 use Rattle.mcw_bits.proofs.run.mcw_bits.Statement.{statement}
 use Rattle.mcw_bits.proofs.run.mcw_bits.Tie as tie
 
