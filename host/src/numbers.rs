@@ -19,11 +19,6 @@ pub const PAIR_CAP: usize = 100_000;
 /// The most rounds of the bisection.
 pub const ROUND_LIMIT: u64 = 1_076;
 
-/// The width that a given one stands for.
-pub fn clamped(width: u8) -> u8 {
-    width.clamp(1, 8)
-}
-
 /// An answer number in words.
 pub fn meaning(number: u64) -> &'static str {
     match number {

@@ -74,6 +74,13 @@ fn of_words(words: [u64; 11]) -> Answer {
     }
 }
 
+/// The numbers whose refusals have no place.
+fn placeless() -> impl Iterator<Item = u64> {
+    plain::GIVEN
+        .into_iter()
+        .filter(|number| ![0, 3].contains(number))
+}
+
 /// An answer of each number that a record may hold: solved, unsolved and with no prediction among
 /// those that ran, with the first place, some place and the last place among those of number 3.
 pub fn of_each_number() -> Vec<Answer> {
@@ -84,17 +91,17 @@ pub fn of_each_number() -> Vec<Answer> {
     ];
     let ran = counts.map(|[c, n, run, k]| abutfern::prediction_estimate(c, n, run, k));
     let last = SYMBOL_LIMIT as u64 - 1;
-    let refusals = [1, 2, 4, 5, 6].map(|number| (number, 0));
-    let misplaced = [0, 0x00ab_cdef, last].map(|place| (3, place));
-    let refused = refusals.into_iter().chain(misplaced).map(plain::refused);
+    let refusals = placeless().map(|number| (number, 0));
+    let placed = [0, 0x00ab_cdef, last].map(|place| (3, place));
+    let refused = refusals.chain(placed).map(plain::refused);
     ran.into_iter().chain(refused).collect()
 }
 
 /// Answers that no record may hold: numbers that are not given, a 0 that did not run, refusals with
 /// a place, and places that no capture has.
 pub fn of_no_number() -> Vec<Answer> {
-    let numbers = [0, 7, 8, 9, 10, 128, 255, 256, 259, 1 << 32, u64::MAX];
-    let misplaced = [1, 2, 4, 5, 6].map(|number| (number, 1));
+    let numbers = [0, 8, 9, 10, 128, 255, 256, 259, 263, 1 << 32, u64::MAX];
+    let misplaced = placeless().map(|number| (number, 1));
     let too_far = [(3, SYMBOL_LIMIT as u64), (3, u64::MAX)];
     let refusals = numbers.map(|number| (number, 0)).into_iter();
     let refusals = refusals.chain(misplaced).chain(too_far);
@@ -125,7 +132,7 @@ pub fn good(random: &mut Random) -> Answer {
 }
 
 fn refusal(random: &mut Random) -> (u64, u64) {
-    let number = 1 + random.below(6);
+    let number = random.one_of(&plain::GIVEN[1..]);
     let far = random.below(SYMBOL_LIMIT as u64);
     let place = random.one_of(&[0, 1, far, SYMBOL_LIMIT as u64 - 1]);
     (number, if number == 3 { place } else { 0 })

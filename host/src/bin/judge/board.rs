@@ -1,6 +1,6 @@
 //! The board figure beside a second, plain implementation.
 
-use crate::captures::WIDTHS;
+use crate::captures::{digits, some_width};
 use crate::floats::{any, near, same};
 use crate::plain;
 use crate::tally::{Clock, Tally};
@@ -37,19 +37,33 @@ fn answer(number: u64, min_entropy: f64, random: &mut Random) -> Answer {
     answer
 }
 
-/// Every combination of the numbers 0 to 7 in the four places, at every width.
+/// Every combination of the numbers that are given, some that are not, and entropies out of range
+/// in the four places, at every width.
 fn every_number(random: &mut Random) -> u64 {
-    let mut tally = Tally::new("board_figure: every combination of the numbers 0 to 7");
-    for numbers in 0..4096u64 {
-        for width in WIDTHS {
-            let answers = [0, 3, 6, 9].map(|shift| {
-                let entropy = fair_entropy(shift % 2 == 0, random);
-                answer(numbers >> shift & 7, entropy, random)
-            });
+    let mut tally = Tally::new("board_figure: every number in every place, every width");
+    let sorts = sorts();
+    let base = sorts.len() as u64;
+    for combination in 0..base.pow(4) {
+        let sort = digits(combination, base, 4);
+        let answers = [0, 1, 2, 3].map(|i| {
+            let (number, entropy) = sorts[usize::from(sort[i])];
+            let fair = fair_entropy(i % 2 == 0, random);
+            answer(number, entropy.unwrap_or(fair), random)
+        });
+        for width in 0..=u8::MAX {
             compare(&answers, width, &mut tally);
         }
     }
     tally.close()
+}
+
+/// Sorts of answers: a number, and an entropy if it is not one within its range.
+fn sorts() -> Vec<(u64, Option<f64>)> {
+    let numbers = plain::GIVEN.into_iter().chain([8, 256 + 7]);
+    let unfair = [-1.0, 8.5, f64::NAN].map(|entropy| (0, Some(entropy)));
+    let not_run = [(6, Some(-1.0))];
+    let fair = numbers.map(|number| (number, None));
+    fair.chain(unfair).chain(not_run).collect()
 }
 
 /// An entropy within its range, often one that another may equal.
@@ -77,7 +91,7 @@ fn random_answers(clock: Clock, random: &mut Random) -> u64 {
                 };
                 answer(number, entropy, random)
             });
-            compare(&answers, random.one_of(&WIDTHS), &mut tally);
+            compare(&answers, some_width(random), &mut tally);
         }
     }
     tally.close()

@@ -1,6 +1,8 @@
 //! The bit reader and the two translators.
 
-use crate::captures::{WIDTHS, damage, described, digits, random_bits, random_capture};
+use crate::captures::{
+    WIDTHS, damage, described, digits, random_bits, random_capture, refusable, some_width,
+};
 use crate::lent::{Lent, bytes};
 use crate::plain;
 use crate::tally::{Clock, Tally, spread};
@@ -13,6 +15,7 @@ pub fn judge(clock: Clock, random: &mut Random) -> u64 {
     let mut differ = 0;
     if exported("bit") {
         differ += short_bits(clock.part(6)) + random_bit(clock.part(5), random);
+        differ += every_width(random);
     }
     for translator in [DENSE, SORTED] {
         if exported(translator.name) {
@@ -46,7 +49,7 @@ fn random_bit(clock: Clock, random: &mut Random) -> u64 {
     let mut tally = Tally::new("bit: random captures of 0 to 600 symbols");
     for () in clock.turns() {
         let length = random.index(600);
-        let width = random.one_of(&WIDTHS);
+        let width = some_width(random);
         let mut symbols = if width < 2 {
             random_bits(length, random)
         } else {
@@ -59,32 +62,64 @@ fn random_bit(clock: Clock, random: &mut Random) -> u64 {
     tally.close()
 }
 
-/// Compares every bit of a capture, and some past its end.
+/// Every width, beside the other reasons to refuse: a capture that is too long, a bit past its end,
+/// a symbol above 1.
+fn every_width(random: &mut Random) -> u64 {
+    let mut tally = Tally::new("bit: every width, beside the other refusals");
+    for symbols in refusable(random) {
+        let length = symbols.len() as u64;
+        let last = length.saturating_sub(1);
+        for width in 0..=u8::MAX {
+            let bits = rust_bits(&symbols, width);
+            let end = length * u64::from(width);
+            for i in [0, last, length, 8 * last, 8 * length, end, u64::MAX] {
+                read(&symbols, width, i, &bits, &mut tally);
+            }
+        }
+    }
+    tally.close()
+}
+
+/// Compares every bit of a capture, and some past its end. Where the width is refused, the end is
+/// that of the symbols.
 fn read_all(symbols: &[u8], width: u8, tally: &mut Tally) {
-    let bits = reference::bitstring(symbols, width);
-    let end = bits.len() as u64;
+    let bits = rust_bits(symbols, width);
+    let end = bits.len().max(symbols.len()) as u64;
     let past = [end + 1, end + 7, 1 << 32, u64::MAX];
     for i in (0..=end).chain(past) {
-        let expected = match plain::bit(symbols, width, i) {
-            Some((number, place)) => BitRead {
-                number,
-                place,
-                bit: 0,
-            },
-            None => BitRead {
-                number: 0,
-                place: 0,
-                bit: bits[i as usize].into(),
-            },
-        };
-        let ours = abutfern::bit(symbols, width, i);
-        tally.check(ours == expected, || {
-            format!(
-                "bit {i} of {} at width {width}: {ours:?}, not {expected:?}",
-                described(symbols)
-            )
-        });
+        read(symbols, width, i, &bits, tally);
     }
+}
+
+/// The Rust's bits of a capture, or none where all of them are refused.
+fn rust_bits(symbols: &[u8], width: u8) -> Vec<u8> {
+    match plain::bit(symbols, width, 0) {
+        Some((1 | 7, _)) => Vec::new(),
+        _ => reference::bitstring(symbols, width),
+    }
+}
+
+/// Compares one bit of a capture; `bits` are the Rust's.
+fn read(symbols: &[u8], width: u8, i: u64, bits: &[u8], tally: &mut Tally) {
+    let expected = match plain::bit(symbols, width, i) {
+        Some((number, place)) => BitRead {
+            number,
+            place,
+            bit: 0,
+        },
+        None => BitRead {
+            number: 0,
+            place: 0,
+            bit: bits[i as usize].into(),
+        },
+    };
+    let ours = abutfern::bit(symbols, width, i);
+    tally.check(ours == expected, || {
+        format!(
+            "bit {i} of {} at width {width}: {ours:?}, not {expected:?}",
+            described(symbols)
+        )
+    });
 }
 
 /// A translator of the library and the Rust's.
@@ -214,10 +249,9 @@ fn limit() -> u64 {
 }
 
 fn bits_at_limit(symbols: &[u8], tally: &mut Tally) {
-    for width in WIDTHS {
-        let wide = u64::from(width.clamp(1, 8));
-        let end = symbols.len() as u64 * wide;
-        for i in [0, end / 2, end - 1, end, end + 1, u64::MAX] {
+    for width in 0..=u8::MAX {
+        let end = symbols.len() as u64 * u64::from(width);
+        for i in [0, end / 2, end.saturating_sub(1), end, end + 1, u64::MAX] {
             let ours = abutfern::bit(symbols, width, i);
             let expected = plain::bit(symbols, width, i).map_or(0, |(number, _)| number);
             let same =

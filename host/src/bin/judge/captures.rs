@@ -1,10 +1,22 @@
 //! Captures to compare on: every short one, random ones of every shape, and damaged copies.
 
+use crate::plain;
+use abutfern::numbers::SYMBOL_LIMIT;
 use abutfern::random::Random;
 use abutfern::shapes::{SHAPES, capture};
 
-/// Widths that are given, the clamped ones among them.
+/// Widths to try: all that are taken, and some that are not.
 pub const WIDTHS: [u8; 11] = [0, 1, 2, 3, 4, 5, 6, 7, 8, 9, 255];
+
+/// A width that is taken, at times any.
+pub fn some_width(random: &mut Random) -> u8 {
+    let any = random.byte();
+    if random.chance(1, 8) {
+        random.one_of(&[0, 9, any])
+    } else {
+        random.one_of(&plain::TAKEN)
+    }
+}
 
 /// How many distinct values a random capture may have.
 const VALUES: [usize; 12] = [1, 2, 2, 2, 3, 4, 5, 16, 17, 100, 255, 256];
@@ -71,7 +83,7 @@ pub fn random_bits(length: usize, random: &mut Random) -> Vec<u8> {
     symbols
 }
 
-/// A random capture that fits a width: bits for width 1, but for a damaged one at times.
+/// A random capture that fits a width: bits up to width 1, but for a damaged one at times.
 pub fn fitting(length: usize, width: u8, random: &mut Random) -> Vec<u8> {
     if width > 1 {
         return random_capture(length, random);
@@ -81,6 +93,25 @@ pub fn fitting(length: usize, width: u8, random: &mut Random) -> Vec<u8> {
         damage(&mut symbols, random);
     }
     symbols
+}
+
+/// Captures without and with reasons to be refused beside their width, alone and together: too few
+/// samples for one estimator or both, too many symbols, a symbol above 1 at the first or last place.
+pub fn refusable(random: &mut Random) -> Vec<Vec<u8>> {
+    const LENGTHS: [usize; 8] = [0, 3, 4, 511, 512, 4095, 4096, SYMBOL_LIMIT + 1];
+    let mut captures = Vec::new();
+    for length in LENGTHS {
+        let bits = random_bits(length, random);
+        for place in [0, length.saturating_sub(1)] {
+            let mut symbols = bits.clone();
+            if let Some(symbol) = symbols.get_mut(place) {
+                *symbol = random.one_of(&[2, 3, 128, 255]);
+                captures.push(symbols);
+            }
+        }
+        captures.push(bits);
+    }
+    captures
 }
 
 /// The capture of `length` digits of `number` to a base.

@@ -157,8 +157,7 @@ fn can_be(answer: &Answer) -> bool {
     match answer.number {
         0 => ran(answer),
         3 => answer.place < SYMBOL_LIMIT as u64 && is_refusal(answer, answer.place),
-        1..=6 => is_refusal(answer, 0),
-        _ => false,
+        number => plain::GIVEN.contains(&number) && is_refusal(answer, 0),
     }
 }
 

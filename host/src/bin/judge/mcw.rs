@@ -1,6 +1,6 @@
 //! MultiMCW on both tracks.
 
-use crate::captures::{WIDTHS, described, fitting, random_capture};
+use crate::captures::{WIDTHS, described, fitting, random_capture, refusable, some_width};
 use crate::lent::{Lent, bytes, length_near};
 use crate::tally::{Clock, Tally};
 use crate::{estimate, plain, trip};
@@ -13,6 +13,7 @@ pub fn judge(clock: Clock, random: &mut Random) -> u64 {
     let mut differ = 0;
     if exported("multi_mcw") {
         differ += bits_around(clock.part(5), random) + bits_long(clock.part(4), random);
+        differ += every_width(random);
     }
     if exported("multi_mcw_literal") {
         differ += literals_around(clock.part(2), random) + literals_long(clock.part(1), random);
@@ -66,12 +67,12 @@ fn compare_literal(
     });
 }
 
-/// Every width, with 4,090 to 4,110 bits.
+/// Every width that is taken, with 4,090 to 4,110 bits.
 fn bits_around(clock: Clock, random: &mut Random) -> u64 {
-    let mut tally = Tally::new("multi_mcw: 4,090 to 4,110 bits, every width");
+    let mut tally = Tally::new("multi_mcw: 4,090 to 4,110 bits, widths 1 to 8");
     for () in clock.turns() {
-        for width in WIDTHS {
-            let wide = usize::from(width.clamp(1, 8));
+        for width in plain::TAKEN {
+            let wide = usize::from(width);
             for length in (4090 / wide)..=(4110 / wide) {
                 compare_bits(&fitting(length, width, random), width, &mut tally);
             }
@@ -83,9 +84,20 @@ fn bits_around(clock: Clock, random: &mut Random) -> u64 {
 fn bits_long(clock: Clock, random: &mut Random) -> u64 {
     let mut tally = Tally::new("multi_mcw: 0 to 100,000 symbols");
     for () in clock.turns() {
-        let width = random.one_of(&WIDTHS);
+        let width = some_width(random);
         let length = any_length(random);
         compare_bits(&fitting(length, width, random), width, &mut tally);
+    }
+    tally.close()
+}
+
+/// Every width, beside the other reasons to refuse.
+fn every_width(random: &mut Random) -> u64 {
+    let mut tally = Tally::new("multi_mcw: every width, beside the other refusals");
+    for symbols in refusable(random) {
+        for width in 0..=u8::MAX {
+            compare_bits(&symbols, width, &mut tally);
+        }
     }
     tally.close()
 }

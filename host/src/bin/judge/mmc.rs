@@ -1,6 +1,8 @@
 //! MultiMMC on bits, and on literals of at most two values and of more.
 
-use crate::captures::{WIDTHS, described, digits, fitting, random_bits, random_capture};
+use crate::captures::{
+    WIDTHS, described, digits, fitting, random_bits, random_capture, refusable, some_width,
+};
 use crate::counters::count;
 use crate::lent::{Lent, bytes, length_near, words};
 use crate::mcw::refusal_faults;
@@ -32,6 +34,9 @@ pub fn judge(clock: Clock, random: &mut Random) -> u64 {
         }
         differ += bench.short_literals(clock.part(2), random);
         differ += bench.random_literals(clock.part(1), random);
+    }
+    if exported("multi_mmc") {
+        differ += bench.every_width(random);
     }
     differ + bench.limit(random)
 }
@@ -168,11 +173,12 @@ impl Bench {
         tally.close()
     }
 
-    /// Every width and shape, the counters one short, exact and longer.
+    /// Every shape and width that is taken, and some that are not; the counters one short, exact
+    /// and longer.
     fn random_bits(&mut self, clock: Clock, random: &mut Random) -> u64 {
-        let mut tally = Tally::new("multi_mmc: random captures, every width");
+        let mut tally = Tally::new("multi_mmc: random captures, widths 1 to 8 and others");
         for () in clock.turns() {
-            let width = random.one_of(&WIDTHS);
+            let width = some_width(random);
             let most = random.one_of(&[5, 20, 40, 40, 600, 600, 5000, 50_000]);
             let symbols = fitting(random.index(most), width, random);
             let length = length_near(COUNTERS, random);
@@ -291,6 +297,19 @@ impl Bench {
             tally.judge(faults, || described(&one));
         }
         self.space.lend(SPACE).fill(0);
+        tally.close()
+    }
+
+    /// Every width, beside the other reasons to refuse: the captures', and counters that are short.
+    fn every_width(&mut self, random: &mut Random) -> u64 {
+        let mut tally = Tally::new("multi_mmc: every width, beside the other refusals");
+        for symbols in refusable(random) {
+            for width in 0..=u8::MAX {
+                for length in [0, COUNTERS - 1, COUNTERS] {
+                    self.compare_bits(&symbols, width, length, random, &mut tally);
+                }
+            }
+        }
         tally.close()
     }
 

@@ -1,9 +1,16 @@
-//! Document 01's answer numbers and their order once more, as plainly as they can be said.
+//! Document 01's answer numbers and their order once more, as plainly as they can be said, with 7
+//! for a width from document 02.
 
 use abutfern::numbers::{
-    COUNTERS, MCW_SAMPLES, MMC_SAMPLES, PREDICTION_LIMIT, SPACE, SYMBOL_LIMIT, clamped,
+    COUNTERS, MCW_SAMPLES, MMC_SAMPLES, PREDICTION_LIMIT, SPACE, SYMBOL_LIMIT,
 };
 use abutfern::{Answer, Estimate, Figure};
+
+/// The widths that are taken: demand 2 compares with the Rust on these alone.
+pub const TAKEN: [u8; 8] = [1, 2, 3, 4, 5, 6, 7, 8];
+
+/// The numbers that an answer can have. 8 and 9 are said of records, not in them.
+pub const GIVEN: [u64; 8] = [0, 1, 2, 3, 4, 5, 6, 7];
 
 /// A refusal: its number and its place.
 pub type Refusal = (u64, u64);
@@ -27,78 +34,75 @@ pub fn refused((number, place): Refusal) -> Answer {
     }
 }
 
-fn samples(symbols: &[u8], width: u8) -> usize {
-    symbols.len() * usize::from(clamped(width))
+/// A refusal without a place, if there is reason for it.
+fn refuse(number: u64, reason: bool) -> Option<Refusal> {
+    reason.then_some((number, 0))
+}
+
+fn too_long(symbols: &[u8]) -> Option<Refusal> {
+    refuse(1, symbols.len() > SYMBOL_LIMIT)
+}
+
+fn not_taken(width: u8) -> Option<Refusal> {
+    refuse(7, !TAKEN.contains(&width))
+}
+
+fn too_few(samples: u64, least: usize) -> Option<Refusal> {
+    refuse(6, samples < least as u64)
+}
+
+fn too_short(lent: usize, needed: usize) -> Option<Refusal> {
+    refuse(2, lent < needed)
+}
+
+fn samples(symbols: &[u8], width: u8) -> u64 {
+    symbols.len() as u64 * u64::from(width)
 }
 
 /// The first symbol that a width-1 capture may not have.
-fn bad_place(symbols: &[u8], width: u8) -> Option<u64> {
-    if clamped(width) > 1 {
+fn bad_symbol(symbols: &[u8], width: u8) -> Option<Refusal> {
+    if width > 1 {
         return None;
     }
     let place = symbols.iter().position(|symbol| *symbol > 1);
-    place.map(|place| place as u64)
+    place.map(|place| (3, place as u64))
 }
 
 /// Why the bit reader refuses.
 pub fn bit(symbols: &[u8], width: u8, i: u64) -> Option<Refusal> {
-    if symbols.len() > SYMBOL_LIMIT {
-        return Some((1, 0));
-    }
-    if i >= samples(symbols, width) as u64 {
-        return Some((2, 0));
-    }
-    if clamped(width) == 1 && symbols[i as usize] > 1 {
-        return Some((3, i));
-    }
-    None
+    too_long(symbols)
+        .or_else(|| not_taken(width))
+        .or_else(|| refuse(2, i >= samples(symbols, width)))
+        .or_else(|| (width == 1 && symbols[i as usize] > 1).then_some((3, i)))
 }
 
 /// Why a translator refuses.
 pub fn translator(symbols: &[u8], out: usize) -> Option<Refusal> {
-    if symbols.len() > SYMBOL_LIMIT {
-        return Some((1, 0));
-    }
-    (out < symbols.len()).then_some((2, 0))
-}
-
-/// Why an estimator refuses: the order 1, 6, 2, 3.
-fn estimator(
-    symbols: &[u8],
-    samples: usize,
-    least: usize,
-    enough: bool,
-    bad: Option<u64>,
-) -> Option<Refusal> {
-    if symbols.len() > SYMBOL_LIMIT {
-        return Some((1, 0));
-    }
-    if samples < least {
-        return Some((6, 0));
-    }
-    if !enough {
-        return Some((2, 0));
-    }
-    bad.map(|place| (3, place))
+    too_long(symbols).or_else(|| too_short(out, symbols.len()))
 }
 
 /// Why MultiMCW on bits refuses.
 pub fn multi_mcw(symbols: &[u8], width: u8) -> Option<Refusal> {
-    let bad = bad_place(symbols, width);
-    estimator(symbols, samples(symbols, width), MCW_SAMPLES, true, bad)
+    too_long(symbols)
+        .or_else(|| not_taken(width))
+        .or_else(|| too_few(samples(symbols, width), MCW_SAMPLES))
+        .or_else(|| bad_symbol(symbols, width))
 }
 
 /// Why MultiMCW on literals refuses.
 pub fn multi_mcw_literal(symbols: &[u8], out: usize) -> Option<Refusal> {
-    let enough = out >= symbols.len();
-    estimator(symbols, symbols.len(), MCW_SAMPLES, enough, None)
+    too_long(symbols)
+        .or_else(|| too_few(symbols.len() as u64, MCW_SAMPLES))
+        .or_else(|| too_short(out, symbols.len()))
 }
 
 /// Why MultiMMC on bits refuses.
 pub fn multi_mmc(symbols: &[u8], width: u8, counters: usize) -> Option<Refusal> {
-    let bad = bad_place(symbols, width);
-    let enough = counters >= COUNTERS;
-    estimator(symbols, samples(symbols, width), MMC_SAMPLES, enough, bad)
+    too_long(symbols)
+        .or_else(|| not_taken(width))
+        .or_else(|| too_few(samples(symbols, width), MMC_SAMPLES))
+        .or_else(|| too_short(counters, COUNTERS))
+        .or_else(|| bad_symbol(symbols, width))
 }
 
 /// The numbers that MultiMMC on literals needs: more than two distinct values need the store.
@@ -113,8 +117,10 @@ pub fn space_needed(symbols: &[u8]) -> usize {
 
 /// Why MultiMMC on literals refuses.
 pub fn multi_mmc_literal(symbols: &[u8], out: usize, space: usize) -> Option<Refusal> {
-    let enough = out >= symbols.len() && space >= space_needed(symbols);
-    estimator(symbols, symbols.len(), MMC_SAMPLES, enough, None)
+    too_long(symbols)
+        .or_else(|| too_few(symbols.len() as u64, MMC_SAMPLES))
+        .or_else(|| too_short(out, symbols.len()))
+        .or_else(|| too_short(space, space_needed(symbols)))
 }
 
 /// Whether counts cannot be.
@@ -137,16 +143,27 @@ pub fn step(p: f64, max_run_len: u64, n: u64) -> Option<u64> {
 
 /// The board figure.
 pub fn board_figure(answers: &[Answer; 4], width: u8) -> Figure {
-    let none = |number| Figure {
+    if let Some((number, _)) = not_taken(width) {
+        return no_figure(number);
+    }
+    let numbers = answers.map(|answer| answer.number);
+    if let Some(number) = numbers.into_iter().find(|number| ![0, 6].contains(number)) {
+        return no_figure(if GIVEN.contains(&number) { number } else { 5 });
+    }
+    smallest(answers, width)
+}
+
+fn no_figure(number: u64) -> Figure {
+    Figure {
         number,
         which: 0,
         value: -1.0,
-    };
-    let given = answers.map(|answer| answer.number);
-    if let Some(number) = given.into_iter().find(|number| ![0, 6].contains(number)) {
-        return none(if number > 6 { 5 } else { number });
     }
-    let mut figure = none(6);
+}
+
+/// The board figure of answers that ran or did not run, none of them refused.
+fn smallest(answers: &[Answer; 4], width: u8) -> Figure {
+    let mut figure = no_figure(6);
     let mut out_of_range = false;
     for (i, answer) in answers.iter().enumerate() {
         if answer.number == 6 {
@@ -154,7 +171,7 @@ pub fn board_figure(answers: &[Answer; 4], width: u8) -> Figure {
         }
         let entropy = answer.estimate.min_entropy;
         let (most, factor) = if i % 2 == 0 {
-            (1.0, f64::from(clamped(width)))
+            (1.0, f64::from(width))
         } else {
             (8.0, 1.0)
         };
@@ -168,5 +185,5 @@ pub fn board_figure(answers: &[Answer; 4], width: u8) -> Figure {
             };
         }
     }
-    if out_of_range { none(5) } else { figure }
+    if out_of_range { no_figure(5) } else { figure }
 }

@@ -169,8 +169,7 @@ pub fn some_record(answer: &Answer, random: &mut Random) -> Vec<u8> {
             }
         }
         6 => {
-            let number = random.below(8) as u8;
-            record[6] = number;
+            record[6] = random.below(10) as u8;
             record[7..].copy_from_slice(&rubbish(RECORD_SIZE - 7, random));
         }
         _ => record = rubbish(RECORD_SIZE, random),

@@ -91,7 +91,7 @@ fn cut_rows(random: &mut Random) -> u64 {
     let mut tallies = Tallies::new("0 to 4 records, cut to every length");
     for count in 0..=4 {
         for bad in 0..=count {
-            for (field, value) in [(4, 2), (6, 7)] {
+            for (field, value) in [(4, 2), (6, 7), (6, 8)] {
                 let mut bytes = good_row(count, random);
                 if bad < count {
                     bytes[bad * RECORD_SIZE + field] = value;
