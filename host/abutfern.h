@@ -10,14 +10,19 @@
  *   4 counts that cannot be
  *   5 a probability or an entropy outside its range, or not a number
  *   6 not run: fewer than 4 samples (MultiMMC) or 4,096 (MultiMCW)
+ *   7 the width is 0, as if it were never filled in, or above 8
  *   8 of a record: a wrong length, a wrong kind, or the end of the input
  *   9 of a record: it holds what no answer is
  * After a refusal every float is -1.0, every other field 0 but for the place of number 3, and all
- * lent memory is what it was. Refusals are tried in the order 1, 6, 2, 3, and 4 before 5.
+ * lent memory is what it was. Refusals are tried in the order 1, 7, 6, 2, 3, and 4 before 5.
  *
- * A width is taken as 1..8: 0 counts as 1, and more than 8 as 8. Lent memory need not be cleared.
- * A pointer may be anything, NULL included, where its length is 0; otherwise it must point to as
- * many elements. Lent memory must not overlap the capture or other lent memory.
+ * A width is 1 to 8, and none is guessed. abutfern_bit, abutfern_multi_mcw, abutfern_multi_mmc and
+ * abutfern_board_figure take one; the literal functions and the alphabets have no width and never
+ * answer 7.
+ *
+ * Lent memory need not be cleared. A pointer may be anything, NULL included, where its length is 0;
+ * otherwise it must point to as many elements. Lent memory must not overlap the capture or other
+ * lent memory.
  */
 #ifndef ABUTFERN_H
 #define ABUTFERN_H
@@ -74,7 +79,7 @@ typedef struct { uint64_t number, size; abutfern_Answer answer; } abutfern_Readi
 typedef struct { uint64_t good, number, byte; } abutfern_Row;
 
 /* Bit i of a capture: at width 1 the symbol itself, else the low `width` bits of each symbol,
- * highest first. Answers 1, 2 (i past the end), 3 (only for the symbol that it reads). */
+ * highest first. Answers 1, 7, 2 (i past the end), 3 (only for the symbol that it reads). */
 abutfern_BitRead abutfern_bit(const uint8_t *symbols, size_t length, uint8_t width, uint64_t i);
 
 /* Writes to out[0..length] the number of each symbol by first sight. Answers 1, 2 (out shorter
@@ -115,7 +120,7 @@ abutfern_Solved abutfern_calc_p_local(uint64_t max_run_len, uint64_t n, double l
 abutfern_Answer abutfern_prediction_estimate(
     uint64_t c, uint64_t n, uint64_t max_run_len, uint64_t k);
 
-/* MultiMCW on the bits of a capture. Answers 1, 6, 3. */
+/* MultiMCW on the bits of a capture. Answers 1, 7, 6, 3. */
 abutfern_Answer abutfern_multi_mcw(const uint8_t *symbols, size_t length, uint8_t bits_per_symbol);
 
 /* MultiMCW on the symbols; out needs `length` bytes and takes the translation by first sight.
@@ -125,7 +130,7 @@ abutfern_Answer abutfern_multi_mcw_literal(
 
 /* MultiMMC on the bits; counters needs ABUTFERN_COUNTERS numbers and takes the counts. Level L's
  * start at 2^(L+1) - 4: context times two, plus the next bit, the oldest bit highest.
- * Answers 1, 6, 2, 3. */
+ * Answers 1, 7, 6, 2, 3. */
 abutfern_Answer abutfern_multi_mmc(
     const uint8_t *symbols, size_t length, uint8_t bits_per_symbol,
     uint32_t *counters, size_t counters_length);
@@ -137,8 +142,9 @@ abutfern_Answer abutfern_multi_mmc_literal(
     const uint8_t *symbols, size_t length, uint8_t *out, size_t out_length,
     uint32_t *space, size_t space_length);
 
-/* The smallest of the estimates that ran, in bits per symbol, and which. Answers the number of the
- * first refused one (5 for a number above 6), 5 (an entropy out of range), 6 (none ran). */
+/* The smallest of the estimates that ran, in bits per symbol, and which. Answers 7 for its own
+ * width first of all; then the number of the first refused one (5 for a number above 7), 5 (an
+ * entropy out of range), 6 (none ran). */
 abutfern_Figure abutfern_board_figure(
     abutfern_Answer mcw_bits, abutfern_Answer mcw_literal,
     abutfern_Answer mmc_bits, abutfern_Answer mmc_literal, uint8_t bits_per_symbol);

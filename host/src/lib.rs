@@ -1,6 +1,7 @@
 //! Abutfern for Rust: safe bindings of the proved library. Every capture, width, count and lent
 //! slice gets an answer; what cannot be done is refused by number (see [`numbers`]), with all lent
-//! memory unchanged.
+//! memory unchanged. A width that is none of [`numbers::WIDTHS`] is refused with 7 by the functions
+//! that take one; the literal tracks and the alphabets have no width and never answer 7.
 
 pub mod ffi;
 pub mod numbers;
@@ -50,7 +51,7 @@ impl Answer {
 // Each call below passes the pointer and length of one slice that outlives it, so all are sound:
 // the library reads and writes nothing else, and its functions take every value.
 
-/// Bit `i` of a capture: answers 0, 1, 2, 3.
+/// Bit `i` of a capture: answers 0, 1, 7, 2, 3.
 pub fn bit(symbols: &[u8], width: u8, i: u64) -> BitRead {
     unsafe { ffi::abutfern_bit(symbols.as_ptr(), symbols.len(), width, i) }
 }
@@ -110,7 +111,7 @@ pub fn prediction_estimate(c: u64, n: u64, max_run_len: u64, k: u64) -> Answer {
     unsafe { ffi::abutfern_prediction_estimate(c, n, max_run_len, k) }
 }
 
-/// MultiMCW on the bitstring track: answers 0, 1, 6, 3.
+/// MultiMCW on the bitstring track: answers 0, 1, 7, 6, 3.
 pub fn multi_mcw(symbols: &[u8], bits_per_symbol: u8) -> Answer {
     unsafe { ffi::abutfern_multi_mcw(symbols.as_ptr(), symbols.len(), bits_per_symbol) }
 }
@@ -123,7 +124,7 @@ pub fn multi_mcw_literal(symbols: &[u8], out: &mut [u8]) -> Answer {
     }
 }
 
-/// MultiMMC on the bitstring track: answers 0, 1, 6, 2, 3. `counters` takes the counts.
+/// MultiMMC on the bitstring track: answers 0, 1, 7, 6, 2, 3. `counters` takes the counts.
 pub fn multi_mmc(symbols: &[u8], bits_per_symbol: u8, counters: &mut [u32]) -> Answer {
     unsafe {
         ffi::abutfern_multi_mmc(
@@ -152,6 +153,8 @@ pub fn multi_mmc_literal(symbols: &[u8], out: &mut [u8], space: &mut [u32]) -> A
 
 /// The smallest of the estimates that ran, in bits per symbol, and the estimator that gave it.
 /// The answers stand in the order MultiMCW bits, MultiMCW literal, MultiMMC bits, MultiMMC literal.
+/// Its own answers: 0; 7 for the width, before all others; the number of the first refused estimate
+/// (5 for a number above 7); 5 for an entropy out of range; 6 where none ran.
 pub fn board_figure(answers: &[Answer; 4], bits_per_symbol: u8) -> Figure {
     let [mcw_bits, mcw_literal, mmc_bits, mmc_literal] = *answers;
     unsafe {

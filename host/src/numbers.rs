@@ -1,7 +1,11 @@
 //! The limits of document 01 and the answer numbers in words.
 
+use std::ops::RangeInclusive;
+
 /// The most symbols a capture may have.
 pub const SYMBOL_LIMIT: usize = 16_777_216;
+/// The widths that are taken, in bits to a symbol; any other is refused with number 7.
+pub const WIDTHS: RangeInclusive<u8> = 1..=8;
 /// The most predictions that the estimate takes.
 pub const PREDICTION_LIMIT: u64 = 134_217_728;
 /// The least number of samples for MultiMCW.
@@ -29,6 +33,7 @@ pub fn meaning(number: u64) -> &'static str {
         4 => "counts that cannot be",
         5 => "a probability or an entropy is outside its range",
         6 => "not run: too few samples",
+        7 => "the width is 0, as if never filled in, or above 8",
         8 => "a record with a wrong length or kind, or the end of the input",
         9 => "a record that holds what no answer is",
         _ => "a number that is not given",

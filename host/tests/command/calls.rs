@@ -40,7 +40,7 @@ fn help_and_version_end_with_a_line_feed() {
 }
 
 /// Wrong calls, their words apart by single spaces, and what is said of each.
-const WRONG: [(&str, &str); 23] = [
+const WRONG: [(&str, &str); 27] = [
     ("frob", "frob is no command; the commands are rate and show"),
     (
         "a.bin --width 8",
@@ -65,15 +65,33 @@ const WRONG: [(&str, &str); 23] = [
     ),
     (
         "rate a --width=",
-        "--width takes a number from 1 to 8, not ''",
+        "--width takes a number from 1 to 8, and its value is empty; is a variable unset?",
     ),
     (
         "rate a --width 0",
-        "--width takes a number from 1 to 8, not '0'",
+        "0 is no width (answer 7), and a width field that was left empty arrives as 0: \
+         say with --width how many bits a symbol has, 1 to 8",
+    ),
+    (
+        "rate a --width=0000",
+        "0000 is no width (answer 7), and a width field that was left empty arrives as 0: \
+         say with --width how many bits a symbol has, 1 to 8",
     ),
     (
         "rate a --width=9",
-        "--width takes a number from 1 to 8, not '9'",
+        "9 is no width (answer 7): say with --width how many bits a symbol has, 1 to 8",
+    ),
+    (
+        "rate a --width 300",
+        "300 is no width (answer 7): say with --width how many bits a symbol has, 1 to 8",
+    ),
+    (
+        "rate a --width -1",
+        "--width takes a number from 1 to 8, not '-1'",
+    ),
+    (
+        "rate a --width=1.5",
+        "--width takes a number from 1 to 8, not '1.5'",
     ),
     (
         "rate a --width 8\n8",
@@ -134,5 +152,17 @@ fn a_wrong_call_says_what_was_wrong_and_how_to_call_it() {
             stderr: format!("abutfern: {wrong}\n{USAGE}abutfern --help says the rest\n"),
         };
         assert_eq!(room.run(&words), expected);
+    }
+}
+
+#[test]
+fn without_a_width_nothing_is_rated_and_nothing_is_written() {
+    let room = Room::new("no-width");
+    room.file("board-17.bin", &sample());
+    for width in ["", "0", "9", "255", "256", "x"] {
+        let words = ["rate", "board-17.bin", "--records=out.rec", "--width"];
+        let outcome = room.run(&[&words[..], &[width]].concat());
+        assert_eq!((outcome.status, &*outcome.stdout), (2, ""), "{width}");
+        assert!(!room.path("out.rec").exists(), "{width}");
     }
 }

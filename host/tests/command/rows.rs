@@ -2,7 +2,10 @@
 
 use crate::room::{Room, page, sample, told};
 use crate::strict;
-use abutfern::{RECORD_SIZE, read_record, read_records, write_record};
+use abutfern::{
+    RECORD_SIZE, multi_mcw, multi_mcw_literal, multi_mmc, prediction_estimate, read_record,
+    read_records, write_record,
+};
 use std::io::Write;
 use std::process::{Command, Stdio};
 
@@ -57,7 +60,7 @@ pub fn row() -> Vec<u8> {
 fn the_library_reads_and_writes_the_records_of_the_page() {
     let row = row();
     let read = read_records(&row);
-    assert_eq!((read.good, read.number, read.byte), (8, 0, 8 * 61));
+    assert_eq!((read.good, read.number, read.byte), (9, 0, 9 * 61));
     for (i, record) in row.chunks(RECORD_SIZE).enumerate() {
         let reading = read_record(record);
         assert_eq!((reading.number, reading.size), (0, 61));
@@ -87,6 +90,23 @@ fn the_captures_of_the_page_have_its_records() {
         let records = std::fs::read(room.path(&out)).expect("the records are there");
         let record = records.chunks(RECORD_SIZE).nth(estimator);
         assert_eq!(record, Some(&*examples[example].bytes), "{name}");
+    }
+}
+
+/// The last has too few samples and counters as well, but 7 comes before 6 and 2.
+#[test]
+fn the_library_has_the_records_of_the_page_that_rate_never_has() {
+    let examples = examples();
+    for (answer, example) in [
+        (multi_mcw_literal(&[0; 4096], &mut [0; 4095]), 3),
+        (prediction_estimate(2, 1, 1, 2), 5),
+        (multi_mcw(&sample(), 0), 8),
+        (multi_mcw(&[2; 4096], 9), 8),
+        (multi_mmc(&[], 255, &mut []), 8),
+    ] {
+        let mut record = [0; RECORD_SIZE];
+        assert_eq!(write_record(&answer, 1, &mut record).number, 0);
+        assert_eq!(record, *examples[example].bytes, "{answer:?}");
     }
 }
 
@@ -132,10 +152,11 @@ fn the_reader_of_the_page_refuses_what_the_library_refuses() {
         row
     };
     for (bad, place, number) in [
-        (row[..487].to_vec(), 7, 8),
+        (row[..548].to_vec(), 8, 8),
         (changed(126, 2), 2, 8),
-        (changed(6, 7), 0, 9),
+        (changed(6, 8), 0, 9),
         (changed(114 + 7, 191), 1, 9),
+        (changed(61 * 7 + 6, 8), 7, 9),
     ] {
         let (status, printed, said) = in_python(&bad);
         let byte = 61 * place;

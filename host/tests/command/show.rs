@@ -112,7 +112,7 @@ fn double(value: f64) -> [u8; 8] {
 #[test]
 fn an_answer_that_ran_with_a_wrong_field() {
     for (first, field, reason) in [
-        (6, &[7][..], "its answer number is 7, and 0 to 6 are given"),
+        (6, &[8][..], "its answer number is 8, and 0 to 7 are given"),
         (9, &[5], "its place is 5, and an answer of 0 has 0 there"),
         (16, &[1], "its C is 16,876,558, above its N, 199,937"),
         (
@@ -160,6 +160,14 @@ fn a_refusal_with_a_wrong_field() {
             &[2],
             "its longest run is 2, and an answer of 6 has 0 there",
         ),
+        (8, 9, &[2], "its place is 2, and an answer of 7 has 0 there"),
+        (
+            8,
+            45,
+            &double(0.5),
+            "its p_local is 0.5, and an answer of 7 has -1.0 there",
+        ),
+        (8, 6, &[8], "its answer number is 8, and 0 to 7 are given"),
         (
             2,
             25,
@@ -263,12 +271,12 @@ fn more_records_than_are_read_at_once() {
     let mut bytes = rows::row().repeat(2500);
     let [table, _] = shown("many", &bytes);
     assert_eq!(table.status, 0);
-    assert_eq!(table.stdout.lines().count(), 20_000 + 4);
+    assert_eq!(table.stdout.lines().count(), 22_500 + 4);
     bytes.truncate(bytes.len() - 1);
     let room = Room::new("show-many-cut");
     room.file("a.rec", &bytes);
     let cut = room.shell(r#"cat a.rec | "$0" "$@""#, &["show", "-"]);
-    let said = "abutfern: standard input has a bad record at place 19,999, byte 1,219,939: \
+    let said = "abutfern: standard input has a bad record at place 22,499, byte 1,372,439: \
                 60 bytes are left, and a record takes 61 (answer 8); \
                 get the file anew from where it was written\n";
     assert_eq!((cut.status, &*cut.stderr), (1, said));

@@ -1,7 +1,9 @@
 //! The command line.
 
 use crate::names;
+use abutfern::numbers::WIDTHS;
 use std::ffi::{OsStr, OsString};
+use std::ops::RangeInclusive;
 use std::os::unix::ffi::OsStrExt;
 use std::path::PathBuf;
 
@@ -66,8 +68,8 @@ fn rate(words: &[OsString]) -> Result<Rate, String> {
         };
         let mut value = || own.clone().or_else(|| words.next().cloned());
         match option.as_str() {
-            "--width" => width = Some(within("--width", value(), 8)? as u8),
-            "--jobs" => jobs = within("--jobs", value(), 64)?,
+            "--width" => width = Some(symbol_bits(value())?),
+            "--jobs" => jobs = within("--jobs", value(), 1..=64)?.into(),
             "--records" if records.is_some() => return Err(TWO_ROWS.to_string()),
             "--records" => records = Some(new_file("--records", value())?),
             "--json" if own.is_none() => json = true,
@@ -77,7 +79,13 @@ fn rate(words: &[OsString]) -> Result<Rate, String> {
         }
     }
     named(&files, "no capture file is named")?;
-    let width = width.ok_or("the bits in a symbol are missing: --width W, 1 to 8")?;
+    let missing = || {
+        format!(
+            "the bits in a symbol are missing: --width W, {}",
+            span(&WIDTHS)
+        )
+    };
+    let width = width.ok_or_else(missing)?;
     Ok(Rate {
         files,
         width,
@@ -108,6 +116,8 @@ fn show(words: &[OsString]) -> Result<Show, String> {
 
 const NO_VALUE: &str = "--json takes no value";
 const TWO_ROWS: &str = "--records is given twice: all records go to one file";
+const EMPTY: &str = "its value is empty; is a variable unset?";
+const BLANK: &str = ", and a width field that was left empty arrives as 0";
 
 /// An option and the value that follows it after `=`; none where the word is a file's name.
 fn option(word: &OsStr) -> Option<(String, Option<OsString>)> {
@@ -135,14 +145,40 @@ fn unknown(option: &str) -> String {
     }
 }
 
-/// The number that an option brings, from 1 to `most`.
-fn within(option: &str, value: Option<OsString>, most: usize) -> Result<usize, String> {
-    let wanted = format!("{option} takes a number from 1 to {most}");
+/// The number that an option brings, which is to be in a range.
+fn within(option: &str, value: Option<OsString>, range: RangeInclusive<u8>) -> Result<u8, String> {
+    let wanted = format!("{option} takes a number from {}", span(&range));
     let value = text(&value.ok_or(format!("{wanted}, and none is given"))?);
     match value.parse() {
-        Ok(number) if (1..=most).contains(&number) => Ok(number),
+        Ok(number) if range.contains(&number) => Ok(number),
+        _ if value.is_empty() => Err(format!("{wanted}, and {EMPTY}")),
         _ => Err(format!("{wanted}, not '{}'", names::printable(&value))),
     }
+}
+
+fn span(range: &RangeInclusive<u8>) -> String {
+    format!("{} to {}", range.start(), range.end())
+}
+
+/// The bits in a symbol, which --width brings.
+fn symbol_bits(value: Option<OsString>) -> Result<u8, String> {
+    let given = value.as_deref().map(text).unwrap_or_default();
+    within("--width", value, WIDTHS).map_err(|wrong| no_width(&given).unwrap_or(wrong))
+}
+
+/// What is said of a whole number that is no width, which the library refuses with 7; nothing of
+/// other words.
+fn no_width(given: &str) -> Option<String> {
+    let digits = given.strip_prefix('+').unwrap_or(given);
+    if digits.is_empty() || !digits.bytes().all(|digit| digit.is_ascii_digit()) {
+        return None;
+    }
+    let zero = digits.bytes().all(|digit| digit == b'0');
+    let origin = if zero { BLANK } else { "" };
+    Some(format!(
+        "{given} is no width (answer 7){origin}: say with --width how many bits a symbol has, {}",
+        span(&WIDTHS)
+    ))
 }
 
 /// The name of a new file that an option brings. What looks like an option is none.
@@ -242,6 +278,47 @@ mod tests {
         assert_eq!(read_line("rate --version --help"), Ok(Call::Version));
     }
 
+    /// What is said of a call with `--width=` and this value.
+    fn of_width(value: &str) -> String {
+        let words = ["rate", "a.bin", &format!("--width={value}")].map(OsString::from);
+        let call = read(words.into_iter());
+        call.expect_err(value)
+    }
+
+    #[test]
+    fn a_whole_number_that_is_no_width_is_told_as_such() {
+        for zero in ["0", "0000", "+0"] {
+            let start = format!("{zero} is no width (answer 7), and a width field that was left ");
+            assert!(of_width(zero).starts_with(&start), "{zero}");
+        }
+        for many in ["9", "09", "+9", "255", "256", "300", &"7".repeat(40)] {
+            let start = format!("{many} is no width (answer 7): say with --width ");
+            assert!(of_width(many).starts_with(&start), "{many}");
+        }
+    }
+
+    #[test]
+    fn a_width_that_is_no_whole_number_is_told_otherwise() {
+        assert!(of_width("").ends_with(EMPTY));
+        for value in [
+            "x", "8\n8", "-1", "-0", "1.5", "+", "++0", "300x", "0x8", " 8", "\u{666}",
+        ] {
+            let said = of_width(value);
+            let start = "--width takes a number from 1 to 8, not '";
+            assert!(said.starts_with(start), "{said}");
+        }
+    }
+
+    #[test]
+    fn the_widths_that_are_taken_are_those_of_the_library() {
+        for width in 0..=255 {
+            let call = read_line(&format!("rate a.bin --width {width}"));
+            let taken = call == expected(&["a.bin"], width, false, 2);
+            let number = abutfern::bit(&[0], width, 0).number;
+            assert_eq!(number, if taken { 0 } else { 7 }, "{width}");
+        }
+    }
+
     #[test]
     fn a_wrong_call_is_refused() {
         for line in [
@@ -250,9 +327,6 @@ mod tests {
             "rate a.bin",
             "rate --width 8",
             "rate a.bin --width",
-            "rate a.bin --width=",
-            "rate a.bin --width 0",
-            "rate a.bin --width=9",
             "rate a.bin --width x",
             "rate a.bin --width 8 --jobs 0",
             "rate a.bin --width 8 --frob",

@@ -20,8 +20,9 @@ is standard input. Four estimates are made, of NIST SP 800-90B: MultiMCW (6.3.7)
 (6.3.9), each on the bits of the symbols and on the symbols themselves (literal). The board figure
 is the smallest of those that ran, in bits of min-entropy per symbol.
 
-  --width W      bits in a symbol, 1 to 8. At width 1 every byte is 0 or 1; at a width of 2 to 8
-                 the low W bits of each byte are the symbol's bits, highest first
+  --width W      bits in a symbol, 1 to 8; 0 and widths above 8 are refused, never guessed.
+                 At width 1 every byte is 0 or 1; at a width of 2 to 8 the low W bits of each byte
+                 are the symbol's bits, highest first. The literal estimates have no width
   --json         one JSON object per file, on a line of its own, for machines
   --jobs N       files rated side by side (default 2); each takes its capture twice and 64 MiB
   --records OUT  writes the records of all captures to a new file as well

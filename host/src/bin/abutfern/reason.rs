@@ -7,15 +7,18 @@ use abutfern::numbers::{PREDICTION_LIMIT, ROUND_LIMIT, SYMBOL_LIMIT};
 /// What the length field of a record says: the bytes that follow it.
 const LENGTH: u64 = RECORD_SIZE as u64 - 4;
 
+/// The last of the answer numbers that are given.
+const GIVEN: u64 = 7;
+
 /// The first thing that is wrong with the record at the start of some bytes, if anything is.
 pub fn of(bytes: &[u8]) -> Option<String> {
     envelope(bytes).or_else(|| {
         let fields = Fields::read(bytes);
         match fields.number {
             0 => ran(&fields),
-            1..=6 => refused(&fields),
+            1..=GIVEN => refused(&fields),
             number => Some(format!(
-                "its answer number is {number}, and 0 to 6 are given"
+                "its answer number is {number}, and 0 to {GIVEN} are given"
             )),
         }
     })
@@ -181,9 +184,10 @@ mod tests {
     #[test]
     fn there_is_a_reason_where_the_library_refuses() {
         let ran = prediction_estimate(99_342, 199_937, 24, 2);
-        let mut wide = prediction_estimate(2, 1, 1, 2);
+        let refused = prediction_estimate(2, 1, 1, 2);
+        let mut wide = refused;
         (wide.number, wide.place) = (3, 4321);
-        for answer in [ran, wide] {
+        for answer in [ran, refused, wide] {
             let mut good = [0; RECORD_SIZE];
             assert_eq!(write_record(&answer, 1, &mut good).number, 0);
             near(good, |record| {
