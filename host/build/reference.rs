@@ -64,7 +64,7 @@ pub fn value_sorted(symbols: &[u8]) -> (Vec<u8>, usize) {
     value_sorted_alphabet(symbols)
 }
 pub fn bitstring(symbols: &[u8], bits_per_symbol: u8) -> Vec<u8> {
-    to_bitstring(symbols, bits_per_symbol.clamp(1, 8))
+    to_bitstring(symbols, bits_per_symbol)
 }
 ";
 
