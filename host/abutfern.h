@@ -17,8 +17,9 @@
  * lent memory is what it was. Refusals are tried in the order 1, 7, 6, 2, 3, and 4 before 5.
  *
  * A width is 1 to 8, and none is guessed. abutfern_bit, abutfern_multi_mcw, abutfern_multi_mmc and
- * abutfern_board_figure take one; the literal functions and the alphabets have no width and never
- * answer 7.
+ * abutfern_board_figure take one, as a uint8_t: C cuts a larger number to its low byte before the
+ * call, so that 260 arrives as 4. Look at it before. The literal functions and the alphabets have
+ * no width and never answer 7.
  *
  * Lent memory need not be cleared. A pointer may be anything, NULL included, where its length is 0;
  * otherwise it must point to as many elements. Lent memory must not overlap the capture or other

@@ -2,7 +2,7 @@
 use mathlib.Core.Path.{_≡_}
 use mathlib.Core.Bool.{false}
 use mathlib.Core.List.{List}
-use mathlib.Mathlib.Data.Bool.Basic.{or-eq-false-eq-eq-false-and-eq-false}
+use mathlib.Mathlib.Data.Bool.Basic.{or-eq-false-eq-eq-false-and-eq-false as neither}
 use Prim.Native.Nat.{ℕ, _*_, _≤_, _<_}
 use native.Mathlib.Nat.{lt-of-le-of-lt, le-trans, mul-le-mul-left, mul-le-mul-right, pos-of-ne-zero}
 use native.Mathlib.Omega.{arith}
@@ -32,5 +32,5 @@ pub record Width (w : ℕ) : Type 0 where
 pub width-taken : (w : ℕ) → noWidth w ≡ false → Width w
 unfolding noWidth
 width-taken w h =
-    let t = or-eq-false-eq-eq-false-and-eq-false (eqb w 0) (ltb 8 w) .0 h in
+    let t = neither (eqb w 0) (ltb 8 w) .0 h in
     record { some = pos-of-ne-zero (eqb-false w 0 (t .0)); narrow = ltb-false 8 w (t .1) }

@@ -2,7 +2,7 @@
 use mathlib.Core.Path.{_≡_, ap, sym, _∙_}
 use mathlib.Core.Bool.{true, false, _||_}
 use mathlib.Core.List.{List}
-use mathlib.Mathlib.Data.Bool.Basic.{or-eq-false-eq-eq-false-and-eq-false}
+use mathlib.Mathlib.Data.Bool.Basic.{or-eq-false-eq-eq-false-and-eq-false as neither}
 use Prim.Native.Nat.{ℕ, _≤_, _<_}
 use borrow.Author.Tests.{eq-eqb, ne-eqb, le-leb, lt-leb, ltb-false}
 use lib.Dec.{eqb, ltb}
@@ -50,7 +50,7 @@ module _ (s out space : List ℕ) {n : ℕ} (e : n ≡ literalNumber s out space
       let one = passed (overLimit s) tooLong _ tt (sym e ∙ z) in
       let six = passed (ltb (length s) leastSamples) notRun _ tt (one .1) in
       let two = passed (ltb (length out) (length s) || ltb (length space) (needed s)) tooShort _ tt (six .1) in
-      let lent = or-eq-false-eq-eq-false-and-eq-false (ltb (length out) (length s)) _ .0 (two .0) in
+      let lent = neither (ltb (length out) (length s)) _ .0 (two .0) in
       record {
         fits = ltb-false symbolLimit (length s) (one .0);
         many = ltb-false (length s) leastSamples (six .0);

@@ -1,7 +1,7 @@
 //! The bit reader and the two translators.
 
 use crate::captures::{
-    WIDTHS, damage, described, digits, random_bits, random_capture, refusable, some_width,
+    TRIED, damage, described, digits, random_bits, random_capture, refusable, some_width,
 };
 use crate::lent::{Lent, bytes};
 use crate::plain;
@@ -34,7 +34,7 @@ fn short_bits(clock: Clock) -> u64 {
         for number in spread(10u64.pow(length)) {
             let symbols = digits(number, 10, length as usize);
             let symbols: Vec<u8> = symbols.iter().map(|i| SYMBOLS[usize::from(*i)]).collect();
-            for width in WIDTHS {
+            for width in TRIED {
                 read_all(&symbols, width, &mut tally);
             }
             if clock.over() {

@@ -6,7 +6,7 @@ use abutfern::random::Random;
 use abutfern::shapes::{SHAPES, capture};
 
 /// Widths to try: all that are taken, and some that are not.
-pub const WIDTHS: [u8; 11] = [0, 1, 2, 3, 4, 5, 6, 7, 8, 9, 255];
+pub const TRIED: [u8; 11] = [0, 1, 2, 3, 4, 5, 6, 7, 8, 9, 255];
 
 /// A width that is taken, at times any.
 pub fn some_width(random: &mut Random) -> u8 {

@@ -1,6 +1,6 @@
 //! MultiMCW on both tracks.
 
-use crate::captures::{WIDTHS, described, fitting, random_capture, refusable, some_width};
+use crate::captures::{TRIED, described, fitting, random_capture, refusable, some_width};
 use crate::lent::{Lent, bytes, length_near};
 use crate::tally::{Clock, Tally};
 use crate::{estimate, plain, trip};
@@ -145,7 +145,7 @@ fn limit(random: &mut Random) -> u64 {
     let many = vec![2; SYMBOL_LIMIT + 1];
     for symbols in [&many[..], &[]] {
         if exported("multi_mcw") {
-            for width in WIDTHS {
+            for width in TRIED {
                 compare_bits(symbols, width, &mut tally);
             }
         }

@@ -1,7 +1,7 @@
 //! MultiMMC on bits, and on literals of at most two values and of more.
 
 use crate::captures::{
-    WIDTHS, described, digits, fitting, random_bits, random_capture, refusable, some_width,
+    TRIED, described, digits, fitting, random_bits, random_capture, refusable, some_width,
 };
 use crate::counters::count;
 use crate::lent::{Lent, bytes, length_near, words};
@@ -320,7 +320,7 @@ impl Bench {
         for length in [SYMBOL_LIMIT + 1, 0, 1, 2, 3] {
             let symbols = &many[..length];
             if exported("multi_mmc") {
-                for width in WIDTHS {
+                for width in TRIED {
                     self.compare_bits(symbols, width, COUNTERS - 1, random, &mut tally);
                     self.compare_bits(symbols, width, COUNTERS, random, &mut tally);
                 }

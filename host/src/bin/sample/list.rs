@@ -128,6 +128,7 @@ fn captures(file: &mut Vec<u8>, random: &mut Random) {
     }
     list.extend([300, 300, 5000].map(|length| some(length, 256, random)));
     for capture in &list {
+        // 1 and 8, the ends, are drawn more often.
         let width = random.one_of(&[1, 1, 2, 3, 4, 5, 6, 7, 8, 8, 8]);
         let fits = width > 1 || capture.symbols.iter().all(|symbol| *symbol < 2);
         if fits && capture.symbols.len() < 1000 {
