@@ -22,18 +22,20 @@ refusalOf n = cond (eqb n done || eqb n notRun) 0 (cond (given n) n outOfRange)
 abbrev pub firstOf : ℕ → ℕ → ℕ
 firstOf a b = cond (eqb a 0) b a
 
+unfoldable pub ran : Answer → Bool
+ran a = eqb (a .number) done
+
 -- "among those that ran, an entropy outside 0..8 (bits: 0..1)"; a NaN is outside
 unfoldable pub inRange : Answer → Float → Bool
-inRange a top =
-    cond (eqb (a .number) done) (le zero (a .estimate .«min_entropy») && le (a .estimate .«min_entropy») top) true
+inRange a top = cond (ran a) (le zero (a .estimate .«min_entropy») && le (a .estimate .«min_entropy») top) true
 
--- an estimate's own figure, which is the number 6 where it did not run
-unfoldable pub entry : ℕ → Answer → Float → Figure
-entry which a value = cond (eqb (a .number) done) (record { number = done; which = which; value = value }) (refusedFigure notRun)
+-- an estimate's own figure
+abbrev pub entry : ℕ → Float → Figure
+entry which value = record { number = done; which = which; value = value }
 
--- "the smallest, the earliest on equality (both zeros are equal)", of those that ran
+-- "the smallest, the earliest on equality (both zeros are equal)"
 unfoldable pub smaller : Figure → Figure → Figure
-smaller a b = cond (eqb (b .number) done && (not (eqb (a .number) done) || lt (b .value) (a .value))) b a
+smaller a b = cond (lt (b .value) (a .value)) b a
 
 -- "bit values times the .. width"
 unfoldable pub perSymbol : Answer → ℕ → Float
@@ -48,17 +50,19 @@ module _ (mcwBits mcwLiteral mmcBits mmcLiteral : Answer) where
   unfoldable pub allInRange : Bool
   allInRange = inRange mcwBits one && (inRange mcwLiteral eight && (inRange mmcBits one && inRange mmcLiteral eight))
 
-  -- 6 "if none ran"
+  unfoldable pub allRan : Bool
+  allRan = ran mcwBits && (ran mcwLiteral && (ran mmcBits && ran mmcLiteral))
+
+  -- 7 "first in the board figure"; "a refused estimate still comes before 6"; "Then .. 5."; "6 unless all four ran"
+  unfoldable pub figureNumber : ℕ → ℕ
+  figureNumber width =
+      cond (noWidth width) badWidth (firstOf refusal (cond (not allInRange) outOfRange (cond (not allRan) notRun done)))
+
   unfoldable pub smallest : ℕ → Figure
   smallest width =
       smaller
-      (smaller
-      (smaller (entry 1 mcwBits (perSymbol mcwBits width)) (entry 2 mcwLiteral (mcwLiteral .estimate .«min_entropy»)))
-      (entry 3 mmcBits (perSymbol mmcBits width)))
-      (entry 4 mmcLiteral (mmcLiteral .estimate .«min_entropy»))
+      (smaller (smaller (entry 1 (perSymbol mcwBits width)) (entry 2 (mcwLiteral .estimate .«min_entropy»))) (entry 3 (perSymbol mmcBits width)))
+      (entry 4 (mmcLiteral .estimate .«min_entropy»))
 
-  -- 7 "first in the board figure"; a refused one, "Then .. 5. Then, if none ran: 6."
   unfoldable pub figureOf : ℕ → Figure
-  figureOf width =
-      cond (noWidth width) (refusedFigure badWidth)
-      (cond (eqb refusal 0) (cond allInRange (smallest width) (refusedFigure outOfRange)) (refusedFigure refusal))
+  figureOf width = cond (eqb (figureNumber width) done) (smallest width) (refusedFigure (figureNumber width))

@@ -1,4 +1,4 @@
-// The board figure: the smallest min-entropy per symbol of the four estimates.
+// The board figure: the smallest min-entropy per symbol of the four estimates, and none unless all four ran.
 use answer::Answer;
 use answer::BAD_WIDTH;
 use answer::DONE;
@@ -7,7 +7,7 @@ use answer::OUT_OF_RANGE;
 use capture::bits::no_width;
 ghost use mathlib.Core.Path.{_≡_};
 ghost use mathlib.Core.Bool.{_&&_};
-ghost use Rattle.board.specs.Board.{allInRange, entry, figureOf, firstOf, inRange, perSymbol, refusal, refusalOf, refusedFigure, smaller, smallest};
+ghost use Rattle.board.specs.Board.{allInRange, allRan, entry, figureNumber, figureOf, firstOf, inRange, perSymbol, ran, refusal, refusalOf, refusedFigure, smaller, smallest};
 
 // The figure and the estimate that gave it: 1 MultiMCW bits, 2 MultiMCW literal, 3 MultiMMC bits, 4 MultiMMC literal.
 #[repr(C)]
@@ -51,11 +51,17 @@ fn first_of(a: u64, b: u64) -> u64
     if a == 0 { b } else { a }
 }
 
+fn has_run(a: Answer) -> bool
+    ensures { λ r. ⌜ r ≡ ran a ⌝ }
+{
+    a.number == DONE
+}
+
 // Whether an answer that ran has an entropy from 0 to `top`.
 fn in_range(a: Answer, top: f64) -> bool
     ensures { λ r. ⌜ r ≡ inRange a top ⌝ }
 {
-    if a.number == DONE {
+    if has_run(a) {
         let value = a.estimate.min_entropy;
         if 0.0 <= value {
             return value <= top;
@@ -72,29 +78,20 @@ fn both(a: bool, b: bool) -> bool
 }
 
 // An estimate's own figure.
-fn entry_of(which: u64, a: Answer, value: f64) -> Figure
-    ensures { λ r. ⌜ r ≡ entry which a value ⌝ }
+fn entry_of(which: u64, value: f64) -> Figure
+    ensures { λ r. ⌜ r ≡ entry which value ⌝ }
 {
-    if a.number == DONE {
-        return Figure {
-            number: DONE,
-            which,
-            value,
-        };
+    Figure {
+        number: DONE,
+        which,
+        value,
     }
-    refused_figure(NOT_RUN)
 }
 
-// The smaller of two figures, the first where they are equal or the second did not run.
+// The smaller of two figures, the first where they are equal.
 fn smaller_of(a: Figure, b: Figure) -> Figure
     ensures { λ r. ⌜ r ≡ smaller a b ⌝ }
 {
-    if b.number != DONE {
-        return a;
-    }
-    if a.number != DONE {
-        return b;
-    }
     if b.value < a.value { b } else { a }
 }
 
@@ -133,7 +130,42 @@ fn all_in_range(
     both(in_range(mcw_bits, 1.0), rest)
 }
 
-// The smallest of those that ran, the earliest on equality.
+// Whether all four ran.
+fn all_ran(mcw_bits: Answer, mcw_literal: Answer, mmc_bits: Answer, mmc_literal: Answer) -> bool
+    ensures { λ r. ⌜ r ≡ allRan «mcw_bits» «mcw_literal» «mmc_bits» «mmc_literal» ⌝ }
+{
+    let later = both(has_run(mmc_bits), has_run(mmc_literal));
+    let rest = both(has_run(mcw_literal), later);
+    both(has_run(mcw_bits), rest)
+}
+
+// The figure's answer number: a width that is none first, then a refusal, then an entropy out of range, then an estimate that did not run.
+fn figure_number(
+    mcw_bits: Answer,
+    mcw_literal: Answer,
+    mmc_bits: Answer,
+    mmc_literal: Answer,
+    width: u8,
+) -> u64
+    ensures { λ r. ⌜ r ≡ figureNumber «mcw_bits» «mcw_literal» «mmc_bits» «mmc_literal» width ⌝ }
+{
+    if no_width(width) {
+        return BAD_WIDTH;
+    }
+    let refused = first_refusal(mcw_bits, mcw_literal, mmc_bits, mmc_literal);
+    if refused != 0 {
+        return refused;
+    }
+    if !all_in_range(mcw_bits, mcw_literal, mmc_bits, mmc_literal) {
+        return OUT_OF_RANGE;
+    }
+    if !all_ran(mcw_bits, mcw_literal, mmc_bits, mmc_literal) {
+        return NOT_RUN;
+    }
+    DONE
+}
+
+// The smallest of the four, the earliest on equality.
 fn smallest_of(
     mcw_bits: Answer,
     mcw_literal: Answer,
@@ -143,14 +175,14 @@ fn smallest_of(
 ) -> Figure
     ensures { λ r. ⌜ r ≡ smallest «mcw_bits» «mcw_literal» «mmc_bits» «mmc_literal» width ⌝ }
 {
-    let first = entry_of(1, mcw_bits, per_symbol(mcw_bits, width));
-    let second = entry_of(2, mcw_literal, mcw_literal.estimate.min_entropy);
-    let third = entry_of(3, mmc_bits, per_symbol(mmc_bits, width));
-    let fourth = entry_of(4, mmc_literal, mmc_literal.estimate.min_entropy);
+    let first = entry_of(1, per_symbol(mcw_bits, width));
+    let second = entry_of(2, mcw_literal.estimate.min_entropy);
+    let third = entry_of(3, per_symbol(mmc_bits, width));
+    let fourth = entry_of(4, mmc_literal.estimate.min_entropy);
     smaller_of(smaller_of(smaller_of(first, second), third), fourth)
 }
 
-// The board figure: a width that is none first, then a refusal, then an entropy out of range, then 6 where none ran.
+// The board figure, in bits of min-entropy per symbol, and the estimate that gave it; its number and nothing else unless all four ran.
 pub fn board_figure(
     mcw_bits: Answer,
     mcw_literal: Answer,
@@ -160,21 +192,21 @@ pub fn board_figure(
 ) -> Figure
     ensures { λ r. ⌜ r ≡ figureOf «mcw_bits» «mcw_literal» «mmc_bits» «mmc_literal» «bits_per_symbol» ⌝ }
 {
-    if no_width(bits_per_symbol) {
-        return refused_figure(BAD_WIDTH);
+    let number = figure_number(
+        mcw_bits,
+        mcw_literal,
+        mmc_bits,
+        mmc_literal,
+        bits_per_symbol,
+    );
+    if number != DONE {
+        return refused_figure(number);
     }
-    let refused = first_refusal(mcw_bits, mcw_literal, mmc_bits, mmc_literal);
-    if refused != 0 {
-        return refused_figure(refused);
-    }
-    if all_in_range(mcw_bits, mcw_literal, mmc_bits, mmc_literal) {
-        return smallest_of(
-            mcw_bits,
-            mcw_literal,
-            mmc_bits,
-            mmc_literal,
-            bits_per_symbol,
-        );
-    }
-    refused_figure(OUT_OF_RANGE)
+    smallest_of(
+        mcw_bits,
+        mcw_literal,
+        mmc_bits,
+        mmc_literal,
+        bits_per_symbol,
+    )
 }
