@@ -9,7 +9,8 @@ use lib.Ieee.{Float, binary64, emax, fits, lt, le, eq, add, div}
 use lib.Ieee.Fits.{div-fits}
 use lib.Ieee.Positive.{num, den, den-pos}
 use Rattle.rounding.proofs.Compare.{le-false}
-use Rattle.rounding.proofs.FromZero.{nonneg, cross-of-le, le-self, le-of-cross, le-chain}
+use Rattle.rounding.proofs.Order.{le-chain}
+use Rattle.rounding.proofs.FromZero.{nonneg, cross-of-le, le-self, le-of-cross}
 use Rattle.rounding.proofs.Midpoint.{midpoint-range}
 use Rattle.rounding.proofs.Ranges.{Between}
 use Rattle.bisect.specs.Bisection.{
@@ -44,15 +45,15 @@ module _ (P : Float → Type 0) where
   pick-one false x y p q = q
 
 -- what lies from a to b lies from lo to 1 where a and b do
-within : (lo a x b : Float) → T (nonneg lo) → Inside lo a → Inside lo b → Between a x b → T (fits binary64 x) → Inside lo x
-within lo a x b n p q r d =
+within : (lo a x b : Float) → Inside lo a → Inside lo b → Between a x b → T (fits binary64 x) → Inside lo x
+within lo a x b p q r d =
     record {
       double = d;
       range =
           record {
             finite = r .finite;
-            from = le-chain lo a x n (p .range .finite) (r .finite) (p .range .from) (r .from);
-            to = le-chain x b one (r .finite) (q .range .finite) tt (r .to) (q .range .to);
+            from = le-chain lo a x (p .range .from) (r .from);
+            to = le-chain x b one (r .to) (q .range .to);
           };
     }
 
@@ -63,10 +64,10 @@ room b n h = go (num b) (den b) (2 ^ suc (emax binary64)) (lit< tt) (den-pos b) 
     go : (n d k : ℕ) → 2 < k → 0 < d → n * 1 ≤ 1 * d → n * 2 < k * d
     go n d k h p l = omega (arith, mul-lt-mul-of-pos-right h p)
 
-pub midpoint-inside : (lo a b : Float) → T (nonneg lo) → Inside lo a → Inside lo b → T (le a b) → Inside lo (midpoint a b)
+pub midpoint-inside : (lo a b : Float) → Inside lo a → Inside lo b → T (le a b) → Inside lo (midpoint a b)
 unfolding midpoint
-midpoint-inside lo a b n p q l =
-    within lo a (div binary64 (add binary64 a b) two) b n p q
+midpoint-inside lo a b p q l =
+    within lo a (div binary64 (add binary64 a b) two) b p q
     (midpoint-range binary64 a b (p .range .finite) (q .range .finite) (p .double) (q .double) l (room b (q .range .finite) (q .range .to)))
     (div-fits binary64 (add binary64 a b) two)
 
@@ -116,7 +117,7 @@ module _ (lo : Float) (n : T (nonneg lo)) (top : T (le lo one)) where
 
   halved-inside : (b : Bracket) (run k : ℕ) → Bracketed lo b → T (le (b .lbound) (b .hbound)) → Bracketed lo (halved b run k)
   unfolding halved
-  halved-inside b run k h l = record { low = h .low; high = h .high; mid = midpoint-inside lo (b .lbound) (b .hbound) n (h .low) (h .high) l }
+  halved-inside b run k h l = record { low = h .low; high = h .high; mid = midpoint-inside lo (b .lbound) (b .hbound) (h .low) (h .high) l }
 
   capped : (x : Float) → Inside lo x → Inside lo (atMostOne x)
   capped x h = pick-one (Inside lo) (lt x one) x one h one-inside
@@ -160,7 +161,7 @@ module _ (lo : Float) (n : T (nonneg lo)) (top : T (le lo one)) where
   unfolding opening
   opening-inside run k d =
       let l : Inside lo lo = record { double = d; range = record { finite = n; from = le-self lo n; to = top } } in
-      record { low = l; high = one-inside; mid = midpoint-inside lo lo one n l one-inside top }
+      record { low = l; high = one-inside; mid = midpoint-inside lo lo one l one-inside top }
 
   -- "the solution lies in [ldomain, 1] and is a number"
   pub local-inside : (run k : ℕ) → T (fits binary64 lo) → Inside lo (localValue lo run k)

@@ -1,18 +1,20 @@
 -- The reported entropy of a probability: a double, exactly its units over 2 ^ 24, from 0 to 8 and no NaN, at most i for a p of 2 ^ -i at least, i at 2 ^ -i,
 -- and negative zero where it is 0. Assumes nothing.
 use mathlib.Core.Path.{_≡_, refl, sym, ap, _∙_, subst}
-use Prim.Native.Nat.{ℕ, zero, suc, _+_, _*_, _^_, _≤_, _<_}
+use Prim.Native.Nat.{ℕ, zero, suc, _*_, _^_, _≤_, _<_}
 use native.Mathlib.Nat.{le-trans, le-of-eq, lt-of-le-of-lt, mul-one, zero-mul, mul-pos, eq-of-mul-eq-mul-right, zero-lt-suc}
 use native.Mathlib.Omega.{arith}
-use mathlib.Core.Bool.{Bool, true, false, _&&_, _||_}
+use mathlib.Core.Bool.{Bool, true, false}
 use borrow.Author.Tests.{ne-eqb}
 use lib.IntN.{pos}
-use lib.Dec.{T, eqb, ltb, lt→ltb, lit<}
-use lib.Ieee.{Float, nan, inf, fin, binary64, up, down, isNan, fits, le}
+use lib.Dec.{T, eqb, lit<}
+use lib.Ieee.{Float, nan, inf, fin, binary64, up, down, isNan, fits, lt, le}
 use lib.Ieee.Exact.{HasValue}
 use lib.Ieee.Fits.{round-fits}
 use lib.Ieee.Order.{le-of-values}
 use lib.Ieee.Positive.{den, num}
+use Rattle.rounding.proofs.Order.{le-of-not-lt}
+use Rattle.rounding.proofs.Numbers.{number-of-value}
 use Rattle.rounding.proofs.FromZero.{zero as +0, nonneg, nonneg-of-value, zero-le-nonneg}
 use Rattle.entropy.specs.Entropy.{units, bitsOf, entropyUnits, entropyOf}
 use Rattle.entropy.specs.MinEntropy.{Probability}
@@ -43,26 +45,12 @@ unfolding entropyOf
 entropy-zero p e = ap bitsOf e ∙ bits-of-none
 
 -- ---- -0 lies at or below any value that has no minus sign, and at or above 0
-sign-only : (a b : ℕ) → a ≡ 0 → T (ltb 0 (a + b) || (eqb a b && (false || eqb a 0)))
-sign-only a b e = subst (λ (k : ℕ). T (ltb 0 (k + b) || (eqb k b && (false || eqb k 0)))) (sym e) (go b)
-  where
-    left : (x y : Bool) → T x → T (x || y)
-    left true y t = tt
-    left false y t = absurd t
-
-    go : (b : ℕ) → T (ltb 0 (0 + b) || (eqb 0 b && (false || eqb 0 0)))
-    go zero = tt
-    go (suc b) = left (ltb 0 (0 + suc b)) _ (lt→ltb 0 (0 + suc b) (omega arith))
-
 minus-zero-below : (y : Float) → T (nonneg y) → T (le minusZero y)
-unfolding le
+unfolding isNan lt
 minus-zero-below nan q = absurd q
 minus-zero-below (inf t) q = absurd q
 minus-zero-below (fin true n d) q = absurd q
-minus-zero-below (fin false n d) q = sign-only (0 * 1 * down d) (n * up d * 1) (gone (down d))
-  where
-    gone : (k : ℕ) → 0 * 1 * k ≡ 0
-    gone k = omega arith
+minus-zero-below (fin false n d) q = le-of-not-lt minusZero (fin false n d) refl refl refl
 
 zero-below-minus : T (le +0 minusZero)
 unfolding le
@@ -75,11 +63,6 @@ module _ (x y : Float) (m i : ℕ) (w : HasValue y false i 1) where
   unfolding isNan
   to-value v h z = go m refl
     where
-      quiet : (z : Float) (s : Bool) (a c : ℕ) → HasValue z s a c → isNan z ≡ false
-      quiet nan s a c v = absurd v
-      quiet (inf t) s a c v = absurd v
-      quiet (fin t n e) s a c v = refl
-
       none : (n : ℕ) → suc n ≡ 0 → ⊥
       none n e = omega arith
 
@@ -90,7 +73,7 @@ module _ (x y : Float) (m i : ℕ) (w : HasValue y false i 1) where
           let u : HasValue x false m units = subst (λ (b : Bool). HasValue x b m units) s v in (
             zero-le-nonneg x (nonneg-of-value x m units u),
             le-of-values x y m units i 1 units-pos (zero-lt-suc 0) u w (le-trans (le-of-eq (mul-one m)) h),
-            quiet x false m units u,
+            number-of-value x false m units u,
           )
 
 module _ (p : Float) (r : Probability p) where

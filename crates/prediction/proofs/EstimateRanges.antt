@@ -21,7 +21,8 @@ use Rattle.entropy.proofs.DemandThree.{demand-three}
 use Rattle.entropy.proofs.EntropyRange.{entropy-to-eight, figure-fits}
 use Rattle.rounding.specs.Doubles.{_⊕_, _⊖_, _⊗_, _⊘_, one, least, whole}
 use Rattle.rounding.proofs.Compare.{le-of-lt}
-use Rattle.rounding.proofs.FromZero.{nonneg, unsigned, unsigned-of-nonneg, le-chain, nonneg-of-value, round-unsigned, add-unsigned, mul-unsigned, div-unsigned}
+use Rattle.rounding.proofs.Order.{le-chain}
+use Rattle.rounding.proofs.FromZero.{nonneg, unsigned, unsigned-of-nonneg, nonneg-of-value, round-unsigned, add-unsigned, mul-unsigned, div-unsigned}
 use Rattle.rounding.proofs.Operations.{sub-is}
 use Rattle.rounding.proofs.Ranges.{Between, whole-value, share-range, reciprocal-range, complement-range, capped-range}
 use Rattle.sqrt.specs.Sqrt.{sqrtOf}
@@ -139,7 +140,7 @@ module _ (c n : ℕ) (h : c ≤ n) (l : n ≤ countLimit) where
                   record {
                     finite = prime-range .finite;
                     from =
-                        le-chain least (one ⊘ whole k) (pGlobalPrime c n) tt (share .finite) (prime-range .finite) (share .from)
+                        le-chain least (one ⊘ whole k) (pGlobalPrime c n) (share .from)
                         (le-of-lt (one ⊘ whole k) (pGlobalPrime c n) e);
                     to = prime-range .to;
                   };
@@ -185,7 +186,7 @@ with-local floor local h (inr g) = by-larger (lt floor local)
           range =
               record {
                 finite = g .range .finite;
-                from = le-chain least floor local tt (h .range .finite) (g .range .finite) (h .range .from) (g .range .from);
+                from = le-chain least floor local (h .range .from) (g .range .from);
                 to = g .range .to;
               };
         }

@@ -8,8 +8,9 @@ use lib.Ieee.{Float, nan, inf, fin, binary64, fits, round, add, mul, lt, le}
 use lib.Ieee.Bits.{is-true, is-false}
 use lib.Ieee.Fits.{sub-fits, mul-fits, round-fits}
 use Rattle.rounding.specs.Doubles.{_⊕_, _⊖_, _⊗_, zero, one}
-use Rattle.rounding.proofs.Compare.{holds, le-of-lt, lt-not-le, infinite-or-positive}
-use Rattle.rounding.proofs.FromZero.{nonneg, unsigned, nonneg-of-positive, unsigned-of-nonneg, nonneg-below, le-self, le-chain, add-unsigned, mul-unsigned}
+use Rattle.rounding.proofs.Compare.{holds, lt-not-le, infinite-or-positive}
+use Rattle.rounding.proofs.Order.{le-chain}
+use Rattle.rounding.proofs.FromZero.{nonneg, unsigned, nonneg-of-positive, unsigned-of-nonneg, le-self, add-unsigned, mul-unsigned}
 use Rattle.rounding.proofs.Monotone.{add-keeps, mul-keeps}
 use Rattle.rounding.proofs.Ranges.{Between, complement-range, product-below}
 use Rattle.sqrt.specs.Sqrt.{sqrtOf}
@@ -41,10 +42,8 @@ not-below-one (fin s m e) y (inf true) a b u h k = absurd u
 not-below-one (fin s m e) y (inf false) a b u h k = refl
 not-below-one (fin s m e) y (fin r n d) a b u h k = is-false (lt more one) (not-T (lt more one) (λ (t : T (lt more one)).
     let g : lt more one ≡ true = is-true (lt more one) t in
-    let f : T (nonneg more) = nonneg-below more one u' tt (le-of-lt more one g) in
     let l : T (le less more) = add-keeps binary64 p p y (fin r n d) a a b u (le-self p a) h in
-    let o : T (nonneg less) = nonneg-below less more (add-unsigned binary64 p y (unsigned-of-nonneg p a) (unsigned-of-nonneg y b)) f l in
-    lt-not-le one more tt u' g (le-chain one less more tt o f k l)))
+    lt-not-le one more tt u' g (le-chain one less more k l)))
   where
     p : Float
     p = fin s m e
@@ -88,5 +87,5 @@ bound-is-one p v q a b c d f t k =
     let o = complement-range binary64 p n b in
     let w = (one ⊖ p) ⊗ q in
     let r = product-below binary64 (one ⊖ p) q (o .finite) c (sub-fits binary64 one p) d in
-    let i : Between zero w one = record { finite = r .finite; from = r .from; to = le-chain w (one ⊖ p) one (r .finite) (o .finite) tt (r .to) (o .to) } in
+    let i : Between zero w one = record { finite = r .finite; from = r .from; to = le-chain w (one ⊖ p) one (r .to) (o .to) } in
     ap (λ (x : Bool). cond x (p ⊕ z995 ⊗ sqrtOf binary64 v) one) (root-not-below p w v n i (mul-fits binary64 (one ⊖ p) q) f t (holds _ k))

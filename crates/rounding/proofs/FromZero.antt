@@ -2,17 +2,17 @@
 -- the fractions.
 -- And the values with no minus sign, an infinity and a NaN among them, which sums, products and quotients do not leave. Assumes nothing.
 use mathlib.Core.Path.{refl, sym, subst}
-use mathlib.Core.Logic.{_⊎_, inl, inr}
 use Prim.Native.Nat.{ℕ, suc, _+_, _*_, _^_, _≤_, _<_, zero-le}
-use native.Mathlib.Nat.{le-refl, le-of-eq, le-of-lt, zero-mul}
-use mathlib.Core.Bool.{Bool, true, false, not, _&&_, _||_, cond}
+use native.Mathlib.Nat.{le-refl, zero-mul}
+use mathlib.Core.Bool.{Bool, true, false, not, cond}
 use lib.IntN.{pos}
-use lib.Dec.{T, ltb, eqb, eqb→eq, ltb→lt, lt→ltb}
+use lib.Dec.{T, ltb, eqb, lt→ltb}
 use lib.Ieee.{Float, nan, inf, fin, Format, prec, emax, low, units, odd, round, sum, add, mul, div, le}
-use lib.Ieee.Fits.{round-is, and-l}
+use lib.Ieee.Fits.{round-is}
 use lib.Ieee.Exact.{HasValue, odd-sign}
 use lib.Ieee.Order.{drop, kept, transfer, le-of-values}
-use lib.Ieee.Positive.{num, den, positive, den-pos, value→cross, through, first-pos}
+use lib.Ieee.Positive.{num, den, positive, den-pos, value→cross, first-pos}
+use Rattle.rounding.proofs.Order.{lt-or-eq}
 
 -- +0
 abbrev pub zero : Float
@@ -52,13 +52,6 @@ nonneg-of-value (inf s) a c h = absurd h
 nonneg-of-value (fin s m e) a c h = subst (λ (z : Bool). T (not z)) (sym (h .0)) tt
 
 -- ---- the order, as one of fractions
-or-split : (a b : Bool) → T (a || b) → T a ⊎ T b
-or-split true b t = inl tt
-or-split false b t = inr t
-
-lt-or-eq : (a b : ℕ) → T (ltb a b || (eqb a b && true)) → a ≤ b
-lt-or-eq a b t = elim (or-split (ltb a b) (eqb a b && true) t) [ inl u ↦ le-of-lt (ltb→lt a b u) | inr u ↦ le-of-eq (eqb→eq a b (and-l (eqb a b) true u)) ]
-
 pub cross-of-le : (x y : Float) → T (nonneg x) → T (nonneg y) → T (le x y) → num x * den y ≤ num y * den x
 unfolding le
 cross-of-le nan y p q h = absurd p
@@ -80,10 +73,6 @@ pub fractions-of-le : (x y : Float) (a c b d : ℕ) → HasValue x false a c →
 fractions-of-le x y a c b d v w l =
     transfer a b c d (num x) (num y) (den x) (den y) (den-pos x) (den-pos y) (sym (value→cross x a c v)) (sym (value→cross y b d w))
     (cross-of-le x y (nonneg-of-value x a c v) (nonneg-of-value y b d w) l)
-
-pub le-chain : (x y z : Float) → T (nonneg x) → T (nonneg y) → T (nonneg z) → T (le x y) → T (le y z) → T (le x z)
-le-chain x y z p q r h k =
-    le-of-cross x z p r (through (num x) (num y) (num z) (den x) (den y) (den z) (den-pos y) (cross-of-le x y p q h) (cross-of-le y z q r k))
 
 pub zero-le-nonneg : (x : Float) → T (nonneg x) → T (le zero x)
 zero-le-nonneg x p = le-of-cross zero x tt p (subst (λ (z : ℕ). z ≤ num x * 1) (sym (zero-mul (den x))) zero-le)

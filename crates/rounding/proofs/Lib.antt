@@ -1,5 +1,7 @@
 pub mod Powers
 pub mod Factors
+pub mod Order
+pub mod Numbers
 pub mod FromZero
 pub mod Compare
 pub mod Operations

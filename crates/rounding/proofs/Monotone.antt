@@ -10,7 +10,8 @@ use lib.Ieee.{Float, Format, round, add, sub, mul, div, fits, le}
 use lib.Ieee.Exact.{HasValue}
 use lib.Ieee.Order.{round-mono}
 use lib.Ieee.Positive.{num, den, positive, den-pos, value-pos, own-value}
-use Rattle.rounding.proofs.FromZero.{nonneg, nonneg-of-value, nonneg-below, round-unsigned, cross-of-le, le-chain}
+use Rattle.rounding.proofs.Order.{le-chain}
+use Rattle.rounding.proofs.FromZero.{nonneg, nonneg-of-value, nonneg-below, round-unsigned, cross-of-le}
 use Rattle.rounding.proofs.Operations.{mul-is, add-is, sub-is, div-is}
 use Rattle.rounding.proofs.Unique.{round-fit}
 
@@ -76,7 +77,7 @@ module _ (f : Format) (x x' y y' : Float) (p : T (nonneg x)) (p' : T (nonneg x')
   sub-keeps l =
       both f (sub f x y') (sub f x' y) (num x * den y' - num y' * den x) (den x * den y') (num x' * den y - num y * den x') (den x' * den y)
       (mul-pos (den-pos x) (den-pos y')) (mul-pos (den-pos x') (den-pos y))
-      (sub-is f x y' p q' l) (sub-is f x' y p' q (le-chain y x x' q p p' (le-chain y y' x q q' p k l) h))
+      (sub-is f x y' p q' l) (sub-is f x' y p' q (le-chain y x x' (le-chain y y' x k l) h))
       (go (num x) (den x) (num x') (den x') (num y) (den y) (num y') (den y') hx hy)
     where
       less : (k a b : ℕ) → (a - b) * k ≡ k * a - k * b

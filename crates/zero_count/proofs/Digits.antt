@@ -7,10 +7,10 @@ use Prim.Native.Nat.{ℕ, zero, suc, _+_, _*_, _^_, _≤_, _<_}
 use native.Mathlib.Nat.{le-antisymm, le-of-lt, zero-lt-suc, le-refl, pow-suc}
 use native.Mathlib.Omega.{arith}
 use lib.Ieee.{Float, le}
-use Rattle.rounding.proofs.FromZero.{le-chain}
+use Rattle.rounding.proofs.Order.{le-chain}
 use Rattle.rounding.proofs.Compare.{holds, clash}
 use Rattle.power.specs.Power.{powerOf}
-use Rattle.power.proofs.Unit.{power-in-unit, power-keeps}
+use Rattle.power.proofs.Unit.{power-keeps}
 use Rattle.zero_count.specs.ZeroCount.{hundredth, fraction, lowEnough, rootDigits}
 use Rattle.zero_count.specs.inner.Bounds.{Encloses}
 use Rattle.zero_count.proofs.Fractions.{fraction-double, part-unit, part-keeps}
@@ -68,8 +68,7 @@ low-below n a b h l e g =
     let u = part-unit a (omega arith) in
     let v = part-unit b l in
     clash (lowEnough 52 n a)
-    (le-chain (powerOf (fraction 52 a) n) (powerOf (fraction 52 b) n) hundredth (power-in-unit (fraction 52 a) u n .finite)
-    (power-in-unit (fraction 52 b) v n .finite) tt
+    (le-chain (powerOf (fraction 52 a) n) (powerOf (fraction 52 b) n) hundredth
     (power-keeps (fraction 52 a) (fraction 52 b) u v (part-keeps a b h) n) (holds (lowEnough 52 n b) e))
     g
 

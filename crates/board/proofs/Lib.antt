@@ -1,0 +1,2 @@
+pub mod Smaller
+pub mod NeverAbove

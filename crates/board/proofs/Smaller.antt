@@ -1,0 +1,35 @@
+-- The smaller of two figures is one of them, and above neither unless one of them is a NaN. Assumes nothing.
+use mathlib.Core.Path.{_≡_, refl}
+use mathlib.Core.Bool.{Bool, true, false, cond}
+use lib.Dec.{T}
+use lib.Ieee.{isNan, lt, le}
+use Rattle.rounding.proofs.Order.{le-itself, le-of-not-lt}
+use Rattle.rounding.proofs.Compare.{le-of-lt}
+use Rattle.board.specs.declared.Figure.{Figure}
+use Rattle.board.specs.Board.{smaller}
+
+module _ (a b : Figure) (p : isNan (a .value) ≡ false) (q : isNan (b .value) ≡ false) where
+  pub smaller-first : T (le (smaller a b .value) (a .value))
+  unfolding smaller
+  smaller-first = go (lt (b .value) (a .value)) refl
+    where
+      go : (t : Bool) → lt (b .value) (a .value) ≡ t → T (le (cond t b a .value) (a .value))
+      go true e = le-of-lt (b .value) (a .value) e
+      go false e = le-itself (a .value) p
+
+  pub smaller-second : T (le (smaller a b .value) (b .value))
+  unfolding smaller
+  smaller-second = go (lt (b .value) (a .value)) refl
+    where
+      go : (t : Bool) → lt (b .value) (a .value) ≡ t → T (le (cond t b a .value) (b .value))
+      go true e = le-itself (b .value) q
+      go false e = le-of-not-lt (a .value) (b .value) p q e
+
+-- what holds of both holds of the smaller
+pub smaller-has : (P : Figure → Type 0) (a b : Figure) → P a → P b → P (smaller a b)
+unfolding smaller
+smaller-has P a b p q = go (lt (b .value) (a .value))
+  where
+    go : (t : Bool) → P (cond t b a)
+    go true = q
+    go false = p
