@@ -1,10 +1,11 @@
 //! Document 01's answer numbers and their order once more, as plainly as they can be said, with 7
-//! for a width from document 02.
+//! for a width and 6 for a board figure from document 02.
 
 use abutfern::numbers::{
     COUNTERS, MCW_SAMPLES, MMC_SAMPLES, PREDICTION_LIMIT, SPACE, SYMBOL_LIMIT,
 };
 use abutfern::{Answer, Estimate, Figure};
+use std::ops::RangeInclusive;
 
 /// The widths that are taken: demand 2 compares with the Rust on these alone.
 pub const TAKEN: [u8; 8] = [1, 2, 3, 4, 5, 6, 7, 8];
@@ -143,47 +144,55 @@ pub fn step(p: f64, max_run_len: u64, n: u64) -> Option<u64> {
 
 /// The board figure.
 pub fn board_figure(answers: &[Answer; 4], width: u8) -> Figure {
-    if let Some((number, _)) = not_taken(width) {
-        return no_figure(number);
-    }
-    let numbers = answers.map(|answer| answer.number);
-    if let Some(number) = numbers.into_iter().find(|number| ![0, 6].contains(number)) {
-        return no_figure(if GIVEN.contains(&number) { number } else { 5 });
-    }
-    smallest(answers, width)
-}
-
-fn no_figure(number: u64) -> Figure {
-    Figure {
-        number,
-        which: 0,
-        value: -1.0,
+    match no_figure(answers, width) {
+        Some((number, _)) => Figure {
+            number,
+            which: 0,
+            value: -1.0,
+        },
+        None => smallest(answers, width),
     }
 }
 
-/// The board figure of answers that ran or did not run, none of them refused.
+/// Why there is no board figure.
+fn no_figure(answers: &[Answer; 4], width: u8) -> Option<Refusal> {
+    not_taken(width)
+        .or_else(|| first_refused(answers))
+        .or_else(|| refuse(5, out_of_range(answers)))
+        .or_else(|| refuse(6, !answers.iter().all(ran)))
+}
+
+fn ran(answer: &Answer) -> bool {
+    answer.number == 0
+}
+
+/// The number of the first refused estimate, 5 for one that is not given.
+fn first_refused(answers: &[Answer; 4]) -> Option<Refusal> {
+    let mut numbers = answers.iter().map(|answer| answer.number);
+    let number = numbers.find(|number| ![0, 6].contains(number))?;
+    Some((if GIVEN.contains(&number) { number } else { 5 }, 0))
+}
+
+/// Whether an estimate that ran has an entropy outside 0..1 on bits or 0..8 on literals.
+fn out_of_range(answers: &[Answer; 4]) -> bool {
+    let ranges = [0.0..=1.0, 0.0..=8.0, 0.0..=1.0, 0.0..=8.0];
+    let outside = |(answer, range): (&Answer, RangeInclusive<f64>)| {
+        ran(answer) && !range.contains(&answer.estimate.min_entropy)
+    };
+    answers.iter().zip(ranges).any(outside)
+}
+
+/// The first of four entropies per symbol that none of them is below.
 fn smallest(answers: &[Answer; 4], width: u8) -> Figure {
-    let mut figure = no_figure(6);
-    let mut out_of_range = false;
-    for (i, answer) in answers.iter().enumerate() {
-        if answer.number == 6 {
-            continue;
-        }
-        let entropy = answer.estimate.min_entropy;
-        let (most, factor) = if i % 2 == 0 {
-            (1.0, f64::from(width))
-        } else {
-            (8.0, 1.0)
-        };
-        out_of_range |= !(0.0..=most).contains(&entropy);
-        let value = entropy * factor;
-        if figure.number == 6 || value < figure.value {
-            figure = Figure {
-                number: 0,
-                which: i as u64 + 1,
-                value,
-            };
-        }
+    let [a, b, c, d] = answers.map(|answer| answer.estimate.min_entropy);
+    let bits = f64::from(width);
+    let values = [a * bits, b, c * bits, d];
+    let least = |value: &f64| values.iter().all(|other| value <= other);
+    let first = values.iter().position(least);
+    let first = first.expect("one of four numbers is the smallest");
+    Figure {
+        number: 0,
+        which: first as u64 + 1,
+        value: values[first],
     }
-    if out_of_range { no_figure(5) } else { figure }
 }
