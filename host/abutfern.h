@@ -9,12 +9,14 @@
  *   3 the width is 1 and a symbol is above 1; its place is returned
  *   4 counts that cannot be
  *   5 a probability or an entropy outside its range, or not a number
- *   6 not run: fewer than 4 samples (MultiMMC) or 4,096 (MultiMCW)
+ *   6 not run: fewer than 4 samples (MultiMMC) or 4,096 (MultiMCW); of the board figure: one or
+ *     more of the four did not run
  *   7 the width is 0, as if it were never filled in, or above 8
  *   8 of a record: a wrong length, a wrong kind, or the end of the input
  *   9 of a record: it holds what no answer is
  * After a refusal every float is -1.0, every other field 0 but for the place of number 3, and all
- * lent memory is what it was. Refusals are tried in the order 1, 7, 6, 2, 3, and 4 before 5.
+ * lent memory is what it was. Refusals are tried in the order 1, 7, 6, 2, 3, and 4 before 5; the
+ * board figure has its own.
  *
  * A width is 1 to 8, and none is guessed. abutfern_bit, abutfern_multi_mcw, abutfern_multi_mmc and
  * abutfern_board_figure take one, as a uint8_t: C cuts a larger number to its low byte before the
@@ -65,7 +67,7 @@ typedef struct { uint64_t number, size; } abutfern_Alphabet;
 typedef struct { uint64_t number; double value; } abutfern_Value;
 typedef struct { uint64_t number, rounds; double value; } abutfern_Solved;
 
-/* which: 1 MultiMCW bits, 2 MultiMCW literal, 3 MultiMMC bits, 4 MultiMMC literal, 0 if refused */
+/* which: 1 MultiMCW bits, 2 MultiMCW literal, 3 MultiMMC bits, 4 MultiMMC literal, 0 if none */
 typedef struct { uint64_t number, which; double value; } abutfern_Figure;
 
 /* size: how many bytes the record takes, 0 if refused */
@@ -143,9 +145,11 @@ abutfern_Answer abutfern_multi_mmc_literal(
     const uint8_t *symbols, size_t length, uint8_t *out, size_t out_length,
     uint32_t *space, size_t space_length);
 
-/* The smallest of the estimates that ran, in bits per symbol, and which. Answers 7 for its own
- * width first of all; then the number of the first refused one (5 for a number above 7), 5 (an
- * entropy out of range), 6 (none ran). */
+/* The smallest of the four estimates, in bits per symbol, and which; none unless all four ran.
+ * Answers 7 for its own width first of all; then the number of the first refused one (5 for a
+ * number above 7), 5 (an entropy out of range), 6 (one or more of the four did not run: those with
+ * number 6). On each of these `which` is 0 and `value` -1.0, and the board has no figure: one that
+ * is kept from an earlier call is another board's. */
 abutfern_Figure abutfern_board_figure(
     abutfern_Answer mcw_bits, abutfern_Answer mcw_literal,
     abutfern_Answer mmc_bits, abutfern_Answer mmc_literal, uint8_t bits_per_symbol);

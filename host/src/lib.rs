@@ -151,10 +151,12 @@ pub fn multi_mmc_literal(symbols: &[u8], out: &mut [u8], space: &mut [u32]) -> A
     }
 }
 
-/// The smallest of the estimates that ran, in bits per symbol, and the estimator that gave it.
+/// The smallest of the four estimates, in bits per symbol, and the estimator that gave it; none
+/// unless all four ran.
 /// The answers stand in the order MultiMCW bits, MultiMCW literal, MultiMMC bits, MultiMMC literal.
 /// Its own answers: 0; 7 for the width, before all others; the number of the first refused estimate
-/// (5 for a number above 7); 5 for an entropy out of range; 6 where none ran.
+/// (5 for a number above 7); 5 for an entropy out of range; 6 where one or more did not run, which
+/// are those with number 6.
 pub fn board_figure(answers: &[Answer; 4], bits_per_symbol: u8) -> Figure {
     let [mcw_bits, mcw_literal, mmc_bits, mmc_literal] = *answers;
     unsafe {

@@ -1,6 +1,7 @@
 //! The C programs of host/README.md, compiled and run as the page says.
 
-use crate::room::{Room, repository};
+use crate::room::{Room, repository, sample};
+use std::path::Path;
 use std::process::Command;
 
 /// The archive that the command is linked with.
@@ -44,19 +45,22 @@ fn compile(room: &Room, place: usize, name: &str) {
 fn the_c_program_rates_a_capture() {
     let room = Room::new("c");
     compile(&room, 0, "rate");
+    room.file("short.bin", &sample()[..4095]);
+    let short = room.path("short.bin");
     let figure = "2.336441636085510253906250 bits of min-entropy per symbol\n";
     for (file, status, expected) in [
-        ("sample/board-17.bin", 0, figure),
-        ("/dev/null", 1, "no board figure: answer 6\n"),
-        ("sample", 2, ""),
-        ("gone.bin", 2, ""),
+        (Path::new("sample/board-17.bin"), 0, figure),
+        (&short, 1, "no board figure: answer 6\n"),
+        (Path::new("/dev/null"), 1, "no board figure: answer 6\n"),
+        (Path::new("sample"), 2, ""),
+        (Path::new("gone.bin"), 2, ""),
     ] {
         let mut rate = Command::new(room.path("rate"));
         let output = rate.arg(file).current_dir(repository()).output();
         let output = output.expect("the program can be started");
         let written = String::from_utf8_lossy(&output.stdout);
         let ended = (output.status.code(), &*written);
-        assert_eq!(ended, (Some(status), expected), "{file}");
+        assert_eq!(ended, (Some(status), expected), "{}", file.display());
     }
 }
 

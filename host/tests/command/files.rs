@@ -123,7 +123,7 @@ fn files_are_printed_in_the_order_given() {
     ];
     let both = room.run(&words);
     let names = strict::read(&both.stdout);
-    assert_eq!(both.status, 0);
+    assert_eq!(both.status, 1);
     assert!(both.stdout.starts_with(&stored("board-17.json")));
     assert_eq!(
         names.unwrap_or(vec!["board-17.bin".into(), "short.bin".into()]),

@@ -18,7 +18,7 @@ abutfern: how much min-entropy a noise source gives, from captures of it
 A capture is a file with one symbol to a byte, as it was recorded, at most 16,777,216 of them; `-`
 is standard input. Four estimates are made, of NIST SP 800-90B: MultiMCW (6.3.7) and MultiMMC
 (6.3.9), each on the bits of the symbols and on the symbols themselves (literal). The board figure
-is the smallest of those that ran, in bits of min-entropy per symbol.
+is the smallest of the four, in bits of min-entropy per symbol. Unless all four ran there is none.
 
   --width W      bits in a symbol, 1 to 8; 0 and widths above 8 are refused, never guessed.
                  At width 1 every byte is 0 or 1; at a width of 2 to 8 the low W bits of each byte
@@ -29,7 +29,9 @@ is the smallest of those that ran, in bits of min-entropy per symbol.
   --             what follows is a file's name, whatever it begins with
 
 MultiMCW needs 4,096 samples and MultiMMC 4, a sample being a bit or a symbol; an estimate with
-fewer is not run, and says so. What cannot be rated is refused with a number and a reason.
+fewer is not run. So a capture of fewer than 4,096 symbols has no board figure: in its place stands
+which estimates did not run, and how many samples each had and needs. What cannot be rated is
+refused with a number and a reason, and has no board figure either.
 
 A record is an answer in 61 bytes, for other programs. OUT has four for each capture, in the order
 of the table, capture after capture as they were named; there are no names in it. So if a capture

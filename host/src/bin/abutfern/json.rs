@@ -43,14 +43,19 @@ fn estimate(estimator: &Estimator, answer: &Answer, rating: &Rating) -> String {
     let rest = match answer.number {
         0 => ran(answer),
         3 => format!(r#","place":{}"#, answer.place),
-        6 => format!(
-            r#","samples":{},"needed":{}"#,
-            estimator.samples(rating),
-            estimator.least
-        ),
+        6 => shortage(estimator, rating),
         _ => String::new(),
     };
     format!("{{{head}{rest}}}")
+}
+
+/// The samples that an estimate had and needs.
+fn shortage(estimator: &Estimator, rating: &Rating) -> String {
+    format!(
+        r#","samples":{},"needed":{}"#,
+        estimator.samples(rating),
+        estimator.least
+    )
 }
 
 fn ran(answer: &Answer) -> String {
@@ -82,10 +87,22 @@ fn figure(rating: &Rating) -> String {
             quoted(ESTIMATORS[figure.which as usize - 1].name)
         ),
         number => format!(
-            r#"{{"number":{number},"bits_per_symbol":null,"estimator":null,"answer":{}}}"#,
-            quoted(meaning(number))
+            r#"{{"number":{number},"bits_per_symbol":null,"estimator":null,"answer":{},"not_run":[{}],"symbols_needed":{}}}"#,
+            quoted(&rating.reason()),
+            not_run(rating),
+            rating.symbols_needed()
         ),
     }
+}
+
+/// The estimates that did not run.
+fn not_run(rating: &Rating) -> String {
+    let not_run = rating.not_run().into_iter().map(|estimator| {
+        let name = quoted(estimator.name);
+        let shortage = shortage(estimator, rating);
+        format!(r#"{{"estimator":{name}{shortage}}}"#)
+    });
+    not_run.collect::<Vec<_>>().join(",")
 }
 
 /// The object of a file of records.

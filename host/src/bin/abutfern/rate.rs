@@ -1,6 +1,6 @@
 //! The four estimates of a capture and its board figure.
 
-use abutfern::numbers::{COUNTERS, MCW_SAMPLES, MMC_SAMPLES, SPACE};
+use abutfern::numbers::{COUNTERS, MCW_SAMPLES, MMC_SAMPLES, SPACE, meaning};
 use abutfern::{Answer, Figure};
 
 /// One of the four estimators.
@@ -37,13 +37,29 @@ pub const ESTIMATORS: [Estimator; 4] = [
 ];
 
 impl Estimator {
-    /// The samples that a rated capture has for it.
-    pub fn samples(&self, rating: &Rating) -> u64 {
+    /// The samples in a symbol of a width.
+    fn per_symbol(&self, width: u8) -> u64 {
         match self.sample {
-            "bit" => rating.symbols * u64::from(rating.width),
-            _ => rating.symbols,
+            "bit" => width.into(),
+            _ => 1,
         }
     }
+
+    /// The samples that a rated capture has for it.
+    pub fn samples(&self, rating: &Rating) -> u64 {
+        rating.symbols * self.per_symbol(rating.width)
+    }
+
+    /// The least number of symbols of a width that it runs on.
+    fn least_symbols(&self, width: u8) -> u64 {
+        (self.least as u64).div_ceil(self.per_symbol(width))
+    }
+}
+
+/// The least number of symbols of a width that all four run on.
+fn enough(width: u8) -> u64 {
+    let least = ESTIMATORS.iter().map(|each| each.least_symbols(width));
+    least.fold(0, u64::max)
 }
 
 /// The functions of the library that a rating calls.
@@ -64,6 +80,34 @@ pub struct Rating {
     pub figure: Figure,
     /// Symbols with bits above the width, and the first one's place.
     pub wide: Option<(usize, usize)>,
+}
+
+impl Rating {
+    /// The estimators that did not run, in the order of the board figure.
+    pub fn not_run(&self) -> Vec<&'static Estimator> {
+        let answers = ESTIMATORS.iter().zip(&self.answers);
+        let not_run = answers.filter(|(_, answer)| answer.number == 6);
+        not_run.map(|(estimator, _)| estimator).collect()
+    }
+
+    /// How many of the estimates did not run, in words.
+    pub fn how_many_not_run(&self) -> String {
+        let count = self.not_run().len();
+        format!("{count} of the {} estimates did not run", ESTIMATORS.len())
+    }
+
+    /// The board figure's number in words.
+    pub fn reason(&self) -> String {
+        match self.figure.number {
+            6 => self.how_many_not_run(),
+            number => meaning(number).to_string(),
+        }
+    }
+
+    /// The least number of symbols that all four estimators run on, at its width.
+    pub fn symbols_needed(&self) -> u64 {
+        enough(self.width)
+    }
 }
 
 /// A rating, or why the capture cannot be read.
@@ -122,4 +166,58 @@ fn wide(symbols: &[u8], width: u8) -> Option<(usize, usize)> {
     let above = |symbol: &&u8| **symbol >> width != 0;
     let first = symbols.iter().position(|symbol| above(&symbol))?;
     Some((symbols.iter().filter(above).count(), first))
+}
+
+#[cfg(test)]
+mod tests {
+    use super::*;
+    use abutfern::numbers::WIDTHS;
+
+    #[test]
+    fn bits_are_rounded_up_to_whole_symbols() {
+        for (width, least) in [
+            (1, [4096, 4096, 4, 4]),
+            (3, [1366, 4096, 2, 4]),
+            (4, [1024, 4096, 1, 4]),
+            (5, [820, 4096, 1, 4]),
+            (8, [512, 4096, 1, 4]),
+        ] {
+            let symbols = ESTIMATORS.map(|estimator| estimator.least_symbols(width));
+            assert_eq!(symbols, least, "{width}");
+            assert_eq!(enough(width), 4096, "{width}");
+        }
+    }
+
+    /// Rates as many zeros.
+    fn zeros(count: u64, width: u8, lent: &mut Lent) -> Rating {
+        rate(&vec![0; count as usize], count, width, lent, |_| ())
+    }
+
+    #[test]
+    fn the_library_gives_a_figure_from_so_many_symbols_on() {
+        let mut lent = Lent::new();
+        for width in WIDTHS {
+            let needed = enough(width);
+            assert_eq!(zeros(needed, width, &mut lent).figure.number, 0);
+            let short = zeros(needed - 1, width, &mut lent);
+            assert_eq!((short.figure.number, short.symbols_needed()), (6, needed));
+        }
+    }
+
+    fn ran(estimator: &Estimator, rating: &Rating) -> bool {
+        let mut not_run = rating.not_run().into_iter();
+        not_run.all(|each| each.name != estimator.name)
+    }
+
+    #[test]
+    fn each_estimator_runs_from_its_least_symbols_on() {
+        let mut lent = Lent::new();
+        for width in WIDTHS {
+            for estimator in ESTIMATORS {
+                let least = estimator.least_symbols(width);
+                assert!(ran(&estimator, &zeros(least, width, &mut lent)));
+                assert!(!ran(&estimator, &zeros(least - 1, width, &mut lent)));
+            }
+        }
+    }
 }

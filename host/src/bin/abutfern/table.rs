@@ -7,8 +7,8 @@ use abutfern::numbers::meaning;
 /// The table of one file.
 pub fn text(file: &str, rating: &Rating) -> String {
     let mut text = format!(
-        "{file}: {} symbols at width {}\n\n{}",
-        grouped(rating.symbols),
+        "{file}: {} at width {}\n\n{}",
+        counted(rating.symbols, "symbol"),
         rating.width,
         HEADER
     );
@@ -25,7 +25,7 @@ pub fn text(file: &str, rating: &Rating) -> String {
             grouped(first as u64)
         );
     }
-    text + &format!("\n  {}\n\n", figure(rating))
+    text + &format!("\n{}\n", figure(rating))
 }
 
 const HEADER: &str = concat!(
@@ -49,9 +49,9 @@ fn row(estimator: &Estimator, answer: &Answer, rating: &Rating) -> String {
             estimator.sample
         ),
         6 => {
-            let had = grouped(estimator.samples(rating));
+            let had = counted(estimator.samples(rating), "sample");
             let needed = grouped(estimator.least as u64);
-            format!("not run: {had} samples, {needed} needed (answer 6)")
+            format!("not run: {had}, {needed} needed (answer 6)")
         }
         3 => format!(
             "refused: {}, the first at place {} (answer 3)",
@@ -71,31 +71,54 @@ pub fn local(p_local: f64) -> String {
     }
 }
 
-/// The board figure, or why there is none.
-pub fn figure(rating: &Rating) -> String {
+/// The board figure, or why there is none, which estimates did not run and what to do.
+fn figure(rating: &Rating) -> String {
     let figure = &rating.figure;
+    let reason = rating.reason();
     match figure.number {
         0 => format!(
-            "board figure: {} bits of min-entropy per symbol, from {}{}",
+            "  board figure: {} bits of min-entropy per symbol, from {}\n",
             rounded_down(figure.value),
-            ESTIMATORS[figure.which as usize - 1].name,
-            not_run(rating)
+            ESTIMATORS[figure.which as usize - 1].name
         ),
-        6 => "board figure: none, no estimate ran (answer 6)".to_string(),
+        6 => format!(
+            "  board figure: none, since {reason} (answer 6)\n{}",
+            not_run(rating, "")
+        ),
         number => format!(
-            "board figure: none, an estimate was refused: {} (answer {number})",
-            meaning(number)
+            "  board figure: none, an estimate was refused: {reason} (answer {number})\n{}",
+            besides(rating)
         ),
     }
 }
 
-/// A word of warning where the figure stands on fewer than the four estimates.
-fn not_run(rating: &Rating) -> String {
-    let missing = rating.answers.iter().filter(|answer| answer.number == 6);
-    match missing.count() {
-        0 => String::new(),
-        count => format!(" ({count} of the 4 estimates did not run)"),
+/// The estimates that did not run beside one that was refused, where there are such.
+fn besides(rating: &Rating) -> String {
+    if rating.not_run().is_empty() {
+        return String::new();
     }
+    format!(
+        "  besides, {}\n{}",
+        rating.how_many_not_run(),
+        not_run(rating, "mend what was refused, ")
+    )
+}
+
+/// What each estimate that did not run had and needs, and what to do, the `first` thing before it.
+fn not_run(rating: &Rating, first: &str) -> String {
+    let mut text = String::new();
+    for estimator in rating.not_run() {
+        text += &format!(
+            "    {} had {} and needs {}\n",
+            estimator.name,
+            counted(estimator.samples(rating), estimator.sample),
+            grouped(estimator.least as u64)
+        );
+    }
+    text + &format!(
+        "    to have a figure, {first}record {} symbols or more of this board and rate that capture\n",
+        grouped(rating.symbols_needed())
+    )
 }
 
 /// Six places after the point, never more than the value.
@@ -112,9 +135,23 @@ pub fn grouped(number: u64) -> String {
     format!("{},{:03}", grouped(number / 1000), number % 1000)
 }
 
+/// A number of things, of which one is called `thing`.
+fn counted(number: u64, thing: &str) -> String {
+    let more = if number == 1 { "" } else { "s" };
+    format!("{} {thing}{more}", grouped(number))
+}
+
 #[cfg(test)]
 mod tests {
     use super::*;
+
+    #[test]
+    fn one_thing_is_no_more() {
+        assert_eq!(
+            [0, 1, 2, 4095].map(|number| counted(number, "bit")),
+            ["0 bits", "1 bit", "2 bits", "4,095 bits"]
+        );
+    }
 
     #[test]
     fn thousands_stand_apart() {
