@@ -139,7 +139,7 @@ fn all_ran(mcw_bits: Answer, mcw_literal: Answer, mmc_bits: Answer, mmc_literal:
     both(has_run(mcw_bits), rest)
 }
 
-// The figure's answer number: a width that is none first, then a refusal, then an entropy out of range, then an estimate that did not run.
+// The figure's number: 7 for its width first of all, then a refusal's, then 5 for an entropy out of range, then 6 unless all four ran.
 fn figure_number(
     mcw_bits: Answer,
     mcw_literal: Answer,
@@ -182,7 +182,7 @@ fn smallest_of(
     smaller_of(smaller_of(smaller_of(first, second), third), fourth)
 }
 
-// The board figure, in bits of min-entropy per symbol, and the estimate that gave it; its number and nothing else unless all four ran.
+// The board figure, in bits of min-entropy per symbol, and the estimate that gave it; where there is none, its number and nothing else.
 pub fn board_figure(
     mcw_bits: Answer,
     mcw_literal: Answer,
