@@ -1,2 +1,2 @@
 pub mod Smaller
-pub mod NeverAbove
+pub mod GivenFigure

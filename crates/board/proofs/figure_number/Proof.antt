@@ -1,9 +1,9 @@
 -- `board::figure_number` meets its contract. It makes the definition's tests in the definition's order, each where those before it did not hold.
 -- Assumes nothing.
-use mathlib.Core.Bool.{false}
-use mathlib.Core.Path.{_≡_, sym, _∙_}
+use mathlib.Core.Bool.{false, not}
+use mathlib.Core.Path.{_≡_, sym, _∙_, ap}
 use Rattle.capture.specs.Limit.{noWidth}
-use Rattle.board.specs.Board.{figureNumber, refusal}
+use Rattle.board.specs.Board.{allInRange, figureNumber, refusal}
 use borrow.Author.Needs.{needs}
 use borrow.Author.Tests.{ne-eqb}
 use Rattle.board.proofs.figure_number.Statement.{statement}
@@ -31,38 +31,25 @@ returns-3 c =
     let past = c .before .before in
     simp (width (past .before .before), none-refused past, sym (c .before .all-in-range .ensures), c .if3 .taken)
 
--- with every entropy in its range
-abbrev fair : tie.After-all-ran → tie.Else3
-fair c = c .before
-
-abbrev past : tie.After-all-ran → tie.Else2
-past c = fair c .before .before
+-- and every entropy is in its range
+in-range : (c : tie.Else3)
+    → let a = c .before .before .before .before .before .before .args in
+    not (allInRange (a .mcw-bits) (a .mcw-literal) (a .mmc-bits) (a .mmc-literal)) ≡ false
+in-range c = ap not (sym (c .before .all-in-range .ensures)) ∙ c .if3 .left
 
 returns-4 : tie.Need-returns-4
 unfolding figureNumber
 returns-4 c =
-    let told = c .before in
-    simp (
-      width (past told .before .before),
-      none-refused (past told),
-      sym (fair told .before .all-in-range .ensures),
-      fair told .if3 .left,
-      sym (told .all-ran .ensures),
-      c .if4 .taken,
-    )
+    let fair = c .before .before in
+    let past = fair .before .before in
+    simp (width (past .before .before), none-refused past, in-range fair, sym (c .before .all-ran .ensures), c .if4 .taken)
 
 returns-5 : tie.Need-returns-5
 unfolding figureNumber
 returns-5 c =
-    let told = c .before in
-    simp (
-      width (past told .before .before),
-      none-refused (past told),
-      sym (fair told .before .all-in-range .ensures),
-      fair told .if3 .left,
-      sym (told .all-ran .ensures),
-      c .if4 .left,
-    )
+    let fair = c .before .before in
+    let past = fair .before .before in
+    simp (width (past .before .before), none-refused past, in-range fair, sym (c .before .all-ran .ensures), c .if4 .left)
 
 pub figure-number-spec : {M : Type 1} → statement M
 figure-number-spec =

@@ -1,5 +1,5 @@
--- What a figure that is given says. Its number is 0 only past every test, so all four estimates ran with an entropy in range; none of the four figures is a
--- NaN then, and the smaller of two is above neither. Assumes nothing.
+-- When a figure is given and what it says. Its number is 0 past every test and only there, so all four estimates ran with an entropy in range; none of the
+-- four figures is a NaN then, and the smaller of two is above neither. Assumes nothing.
 use mathlib.Core.Path.{_≡_, refl, sym, _∙_, ap, subst}
 use mathlib.Core.Bool.{Bool, true, false, not, _&&_, cond, true≢false}
 use mathlib.Core.Logic.{_⊎_, inl, inr}
@@ -22,7 +22,7 @@ use Rattle.answer.proofs.Order.{passed}
 use Rattle.capture.specs.Limit.{noWidth}
 use Rattle.capture.proofs.Limits.{Width, width-taken}
 use Rattle.board.specs.declared.Figure.{Figure}
-use Rattle.board.specs.Board.{ran, inRange, entry, smaller, perSymbol, firstOf, refusal, refusedFigure, allInRange, allRan, figureNumber, smallest, figureOf}
+use Rattle.board.specs.Board.{ran, inRange, entry, smaller, perSymbol, firstOf, refusalOf, refusal, refusedFigure, allInRange, allRan, figureNumber, smallest, figureOf}
 use Rattle.board.proofs.Smaller.{smaller-first, smaller-second, smaller-has}
 
 -- ---- the tests, each passed
@@ -39,6 +39,11 @@ not-false false e = absurd (true≢false e)
 
 parted : (a b c d : Bool) → T (a && (b && (c && d))) → T a × T b × T c × T d
 parted true true true true t = (tt, tt, tt, tt)
+
+-- an estimate that ran is not refused
+unrefused : (a : Answer) → T (ran a) → refusalOf (a .number) ≡ 0
+unfolding ran refusalOf
+unrefused a t = rw (eqb→eq (a .number) done t)
 
 -- an estimate that ran, with an entropy from 0 to `top`
 record Ran (a : Answer) (top : Float) : Type 0 where
@@ -104,7 +109,15 @@ module _ (mcwBits mcwLiteral mmcBits mmcLiteral : Answer) (width : ℕ) where
       go true e = smallest-has (λ (f : Figure). f .number ≡ done) refl refl refl refl ∙ sym (eqb→eq number done (holds (eqb number done) e))
       go false e = refl
 
-  -- ---- a figure is given
+  -- a figure is given where the width is one and all four ran, with their entropies in range
+  pub figure-given : noWidth width ≡ false → fair ≡ true → all ≡ true → figure .number ≡ done
+  unfolding figureNumber refusal allRan
+  figure-given w f c =
+      let r = parted (ran mcwBits) (ran mcwLiteral) (ran mmcBits) (ran mmcLiteral) (holds all c) in
+      figure-number
+      ∙ simp (w, unrefused mcwBits (r .0), unrefused mcwLiteral (r .1), unrefused mmcBits (r .2), unrefused mmcLiteral (r .3), f, c)
+
+  -- ---- and then
   record Complete : Type 0 where
     taken : Width width
     mcw-bits : Ran mcwBits one
