@@ -1,4 +1,5 @@
--- `board::all_in_range` meets its contract. Assumes nothing.
+-- `board::all_in_range` meets its contract. It asks the four in the definition's order, each with its own end. Assumes nothing.
+use mathlib.Core.Path.{_∙_}
 use Rattle.board.specs.Board.{allInRange}
 use lib.Ieee.{ofBits}
 use borrow.Author.Needs.{needs}
@@ -13,15 +14,14 @@ returns c =
     let second = rest .before in
     let later = second .before in
     let fourth = later .before in
-    let third = fourth .before in
-    cc (
-      third .in-range .ensures,
-      fourth .in-range2 .ensures,
-      later .both .ensures,
-      second .in-range3 .ensures,
-      rest .both2 .ensures,
+    c .both3 .ensures
+    ∙ rw (
       first .in-range4 .ensures,
-      c .both3 .ensures,
+      rest .both2 .ensures,
+      second .in-range3 .ensures,
+      later .both .ensures,
+      fourth .in-range2 .ensures,
+      fourth .before .in-range .ensures,
     )
 
 pub all-in-range-spec : {M : Type 1} → statement M

@@ -1,4 +1,5 @@
--- `board::first_refusal` meets its contract. Assumes nothing.
+-- `board::first_refusal` meets its contract. It asks the four in the definition's order. Assumes nothing.
+use mathlib.Core.Path.{_∙_}
 use Rattle.board.specs.Board.{refusal}
 use borrow.Author.Needs.{needs}
 use Rattle.board.proofs.first_refusal.Statement.{statement}
@@ -12,15 +13,14 @@ returns c =
     let second = rest .before in
     let later = second .before in
     let fourth = later .before in
-    let third = fourth .before in
-    cc (
-      third .refusal-of .ensures,
-      fourth .refusal-of2 .ensures,
-      later .first-of .ensures,
-      second .refusal-of3 .ensures,
-      rest .first-of2 .ensures,
+    c .first-of3 .ensures
+    ∙ rw (
       first .refusal-of4 .ensures,
-      c .first-of3 .ensures,
+      rest .first-of2 .ensures,
+      second .refusal-of3 .ensures,
+      later .first-of .ensures,
+      fourth .refusal-of2 .ensures,
+      fourth .before .refusal-of .ensures,
     )
 
 pub first-refusal-spec : {M : Type 1} → statement M

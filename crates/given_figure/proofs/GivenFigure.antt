@@ -21,9 +21,9 @@ use Rattle.answer.specs.declared.Answer.{Answer}
 use Rattle.answer.proofs.Order.{passed}
 use Rattle.capture.specs.Limit.{noWidth}
 use Rattle.capture.proofs.Limits.{Width, width-taken}
 use Rattle.board.specs.declared.Figure.{Figure}
 use Rattle.board.specs.Board.{ran, inRange, entry, smaller, perSymbol, firstOf, refusalOf, refusal, refusedFigure, allInRange, allRan, figureNumber, smallest, figureOf}
-use Rattle.board.proofs.Smaller.{smaller-first, smaller-second, smaller-has}
+use Rattle.given_figure.proofs.Smaller.{smaller-first, smaller-second, smaller-has}
 
 -- ---- the tests, each passed
 first-none : (a b : ℕ) → firstOf a b ≡ 0 → b ≡ 0
