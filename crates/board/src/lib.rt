@@ -71,10 +71,17 @@ fn in_range(a: Answer, top: f64) -> bool
     true
 }
 
-fn both(a: bool, b: bool) -> bool
-    ensures { λ r. ⌜ r ≡ (a && b) ⌝ }
+fn all_four(a: bool, b: bool, c: bool, d: bool) -> bool
+    ensures { λ r. ⌜ r ≡ (a && (b && (c && d))) ⌝ }
 {
-    if a { b } else { false }
+    if a {
+        if b {
+            if c {
+                return d;
+            }
+        }
+    }
+    false
 }
 
 // An estimate's own figure.
@@ -125,18 +132,24 @@ fn all_in_range(
 ) -> bool
     ensures { λ r. ⌜ r ≡ allInRange «mcw_bits» «mcw_literal» «mmc_bits» «mmc_literal» ⌝ }
 {
-    let later = both(in_range(mmc_bits, 1.0), in_range(mmc_literal, 8.0));
-    let rest = both(in_range(mcw_literal, 8.0), later);
-    both(in_range(mcw_bits, 1.0), rest)
+    all_four(
+        in_range(mcw_bits, 1.0),
+        in_range(mcw_literal, 8.0),
+        in_range(mmc_bits, 1.0),
+        in_range(mmc_literal, 8.0),
+    )
 }
 
 // Whether all four ran.
 fn all_ran(mcw_bits: Answer, mcw_literal: Answer, mmc_bits: Answer, mmc_literal: Answer) -> bool
     ensures { λ r. ⌜ r ≡ allRan «mcw_bits» «mcw_literal» «mmc_bits» «mmc_literal» ⌝ }
 {
-    let later = both(has_run(mmc_bits), has_run(mmc_literal));
-    let rest = both(has_run(mcw_literal), later);
-    both(has_run(mcw_bits), rest)
+    all_four(
+        has_run(mcw_bits),
+        has_run(mcw_literal),
+        has_run(mmc_bits),
+        has_run(mmc_literal),
+    )
 }
 
 // The figure's number: 7 for its width first of all, then a refusal's, then 5 for an entropy out of range, then 6 unless all four ran.

@@ -9,12 +9,13 @@ use borrow.Author.Tests.{ne-eqb}
 use lib.IntN.{pos}
 use lib.Dec.{T, eqb, lit<}
 use lib.Ieee.{Float, nan, inf, fin, binary64, up, down, isNan, fits, lt, le}
+use lib.Ieee.Bits.{is-false}
 use lib.Ieee.Exact.{HasValue}
 use lib.Ieee.Fits.{round-fits}
 use lib.Ieee.Order.{le-of-values}
 use lib.Ieee.Positive.{den, num}
 use Rattle.rounding.proofs.Order.{le-of-not-lt}
-use Rattle.rounding.proofs.Numbers.{number-of-value}
+use Rattle.rounding.proofs.Numbers.{value-no-nan}
 use Rattle.rounding.proofs.FromZero.{zero as +0, nonneg, nonneg-of-value, zero-le-nonneg}
 use Rattle.entropy.specs.Entropy.{units, bitsOf, entropyUnits, entropyOf}
 use Rattle.entropy.specs.MinEntropy.{Probability}
@@ -50,7 +51,7 @@ unfolding isNan lt
 minus-zero-below nan q = absurd q
 minus-zero-below (inf t) q = absurd q
 minus-zero-below (fin true n d) q = absurd q
-minus-zero-below (fin false n d) q = le-of-not-lt minusZero (fin false n d) refl refl refl
+minus-zero-below (fin false n d) q = le-of-not-lt minusZero (fin false n d) tt tt refl
 
 zero-below-minus : T (le +0 minusZero)
 unfolding le
@@ -73,7 +74,7 @@ module _ (x y : Float) (m i : ℕ) (w : HasValue y false i 1) where
           let u : HasValue x false m units = subst (λ (b : Bool). HasValue x b m units) s v in (
             zero-le-nonneg x (nonneg-of-value x m units u),
             le-of-values x y m units i 1 units-pos (zero-lt-suc 0) u w (le-trans (le-of-eq (mul-one m)) h),
-            number-of-value x false m units u,
+            is-false (isNan x) (value-no-nan x false m units u),
           )
 
 module _ (p : Float) (r : Probability p) where

@@ -5,7 +5,7 @@ use mathlib.Core.Bool.{Bool, true, false, not, _&&_, cond, true≢false}
 use mathlib.Core.Logic.{_⊎_, inl, inr}
 use Prim.Native.Nat.{ℕ}
 use native.Mathlib.Nat.{le-trans}
-use borrow.Author.Tests.{eq-eqb}
+use borrow.Author.Tests.{eq-eqb, not-false}
 use lib.Ieee.Bits.{is-true}
 use lib.Dec.{T, eqb, eqb→eq, lit≤}
 use lib.Ieee.{Float, binary64, isNan, le}
@@ -23,7 +23,7 @@ use Rattle.capture.specs.Limit.{noWidth}
 use Rattle.capture.proofs.Limits.{Width, width-taken}
 use Rattle.board.specs.declared.Figure.{Figure}
 use Rattle.board.specs.Board.{ran, inRange, entry, smaller, perSymbol, firstOf, refusalOf, refusal, refusedFigure, allInRange, allRan, figureNumber, smallest, figureOf}
-use Rattle.given_figure.proofs.Smaller.{smaller-first, smaller-second, smaller-has}
+use Rattle.given_figure.proofs.Smaller.{smaller-below, smaller-has}
 
 -- ---- the tests, each passed
 first-none : (a b : ℕ) → firstOf a b ≡ 0 → b ≡ 0
@@ -32,10 +32,6 @@ first-none a b h = go (eqb a 0) refl h
     go : (t : Bool) → eqb a 0 ≡ t → cond t b a ≡ 0 → b ≡ 0
     go true e h = h
     go false e h = absurd (true≢false (sym (eq-eqb a 0 h) ∙ e))
-
-not-false : (b : Bool) → not b ≡ false → T b
-not-false true e = tt
-not-false false e = absurd (true≢false e)
 
 parted : (a b c d : Bool) → T (a && (b && (c && d))) → T a × T b × T c × T d
 parted true true true true t = (tt, tt, tt, tt)
@@ -59,10 +55,10 @@ ran-in-range a top r t =
     record { number = eqb→eq (a .number) done r; from = and-l (le zero e) (le e top) both; to = and-r (le zero e) (le e top) both }
 
 -- a literal figure, and a bit's times a width, are numbers
-literal-number : (a : Answer) (top : Float) → Ran a top → isNan (a .estimate .«min_entropy») ≡ false
+literal-number : (a : Answer) (top : Float) → Ran a top → T (not (isNan (a .estimate .«min_entropy»)))
 literal-number a top r = le-number zero (a .estimate .«min_entropy») (r .from)
 
-bits-number : (a : Answer) (w : ℕ) → Width w → Ran a one → isNan (perSymbol a w) ≡ false
+bits-number : (a : Answer) (w : ℕ) → Width w → Ran a one → T (not (isNan (perSymbol a w)))
 unfolding perSymbol
 bits-number a w W r =
     let e = a .estimate .«min_entropy» in
@@ -101,7 +97,7 @@ module _ (mcwBits mcwLiteral mmcBits mmcLiteral : Answer) (width : ℕ) where
       smaller-has P (smaller (smaller first second) third) fourth (smaller-has P (smaller first second) third (smaller-has P first second p q) r) s
 
   -- the figure's number is the one that the tests give
-  pub figure-number : figure .number ≡ number
+  figure-number : figure .number ≡ number
   unfolding figureOf
   figure-number = go (eqb number done) refl
     where
@@ -131,8 +127,8 @@ module _ (mcwBits mcwLiteral mmcBits mmcLiteral : Answer) (width : ℕ) where
       let w = passed (noWidth width) badWidth _ tt n in
       let f = passed (not fair) outOfRange _ tt (first-none (refusal mcwBits mcwLiteral mmcBits mmcLiteral) _ (w .1)) in
       let c = passed (not all) notRun done tt (f .1) in
-      let r = parted (ran mcwBits) (ran mcwLiteral) (ran mmcBits) (ran mmcLiteral) (not-false all (c .0)) in
-      let t = parted (inRange mcwBits one) (inRange mcwLiteral eight) (inRange mmcBits one) (inRange mmcLiteral eight) (not-false fair (f .0)) in
+      let r = parted (ran mcwBits) (ran mcwLiteral) (ran mmcBits) (ran mmcLiteral) (holds all (not-false all (c .0))) in
+      let t = parted (inRange mcwBits one) (inRange mcwLiteral eight) (inRange mmcBits one) (inRange mmcLiteral eight) (holds fair (not-false fair (f .0))) in
       record {
         taken = width-taken width (w .0);
         mcw-bits = ran-in-range mcwBits one (r .0) (t .0);
@@ -176,13 +172,15 @@ module _ (mcwBits mcwLiteral mmcBits mmcLiteral : Answer) (width : ℕ) where
         let two = smaller first second in
         let three = smaller two third in
         let four = smaller three fourth in
-        let two-is = smaller-has (λ (f : Figure). isNan (f .value) ≡ false) first second n1 n2 in
-        let three-is = smaller-has (λ (f : Figure). isNan (f .value) ≡ false) two third two-is n3 in
-        let third-up = smaller-first three fourth three-is n4 in
-        let second-up = le-chain (four .value) (three .value) (two .value) third-up (smaller-first two third two-is n3) in
+        let two-is = smaller-has (λ (f : Figure). T (not (isNan (f .value)))) first second n1 n2 in
+        let three-is = smaller-has (λ (f : Figure). T (not (isNan (f .value)))) two third two-is n3 in
+        let of-two = smaller-below first second n1 n2 in
+        let of-three = smaller-below two third two-is n3 in
+        let of-four = smaller-below three fourth three-is n4 in
+        let under-two = le-chain (four .value) (three .value) (two .value) (of-four .0) (of-three .0) in
         rw is-smallest (
-          le-chain (four .value) (two .value) (first .value) second-up (smaller-first first second n1 n2),
-          le-chain (four .value) (two .value) (second .value) second-up (smaller-second first second n1 n2),
-          le-chain (four .value) (three .value) (third .value) third-up (smaller-second two third two-is n3),
-          smaller-second three fourth three-is n4,
+          le-chain (four .value) (two .value) (first .value) under-two (of-two .0),
+          le-chain (four .value) (two .value) (second .value) under-two (of-two .1),
+          le-chain (four .value) (three .value) (third .value) (of-four .0) (of-three .1),
+          of-four .1,
         )

@@ -11,7 +11,8 @@ use lib.Ieee.Bits.{ofBits-toBits, nanBits-is}
 use lib.Ieee.Exact.{HasValue, round-exact}
 use lib.Ieee.Fits.{round-fits}
 use lib.Ieee.Scale.{round-same}
-use Rattle.sqrt.proofs.Patterns.{toBits-value, bits-of, value-no-nan}
+use Rattle.rounding.proofs.Numbers.{value-no-nan}
+use Rattle.sqrt.proofs.Patterns.{toBits-value, bits-of}
 
 -- a number of 53 digits with such a field is far below the largest double
 pub small : (q k : ℕ) → q < 2 ^ 53 → k ≤ 2000 → q * 2 ^ k < 2 ^ 2098

@@ -6,7 +6,8 @@ use Prim.Native.Nat.{ℕ, _^_, _<_}
 use native.Mathlib.Omega.{arith}
 use borrow.Author.Tests.{eqb-true, leb-true, ltb-true, not-true}
 use lib.Dec.{T, eqb, leb, ltb}
-use lib.Ieee.{Float, nan, inf, fin, eq, isNan, le, lt}
+use lib.Ieee.{Float, nan, inf, fin, eq, isNan, le}
+use lib.Ieee.Fits.{and-l}
 use Rattle.answer.proofs.Given.{given-small}
 use Rattle.answer.specs.Numbers.{done, given, tooWide}
 use Rattle.answer.specs.Refused.{minusOne}
@@ -19,7 +20,9 @@ use Rattle.counts.proofs.Refusals.{counts-can-be}
 use Rattle.counts.proofs.Whole as counts
 use Rattle.counts.specs.Counts.{impossibleCounts}
 use Rattle.recordable.specs.Recordable.{asRan, asRefused, blank, likelihoods, placed, recordable, within}
-use Rattle.rounding.specs.Doubles.{one}
+use Rattle.rounding.proofs.Compare.{holds}
+use Rattle.rounding.proofs.Order.{le-number}
+use Rattle.rounding.specs.Doubles.{zero, one}
 
 -- four floats, none of them a NaN
 pub record Numeric (e : Estimate) : Type 0 where
@@ -40,10 +43,8 @@ pub record Bounds (a : Answer) : Type 0 where
 
 -- ---- a float that compares is no NaN
 within-numeric : (x top : Float) → within x top ≡ true → T (not (isNan x))
-unfolding within le lt eq isNan
-within-numeric nan top h = absurd (false≢true h)
-within-numeric (inf s) top h = tt
-within-numeric (fin s m e) top h = tt
+unfolding within
+within-numeric x top h = le-number zero x (and-l (le zero x) (le x top) (holds _ h))
 
 equal-numeric : (x y : Float) → eq x y ≡ true → T (not (isNan x))
 unfolding eq isNan

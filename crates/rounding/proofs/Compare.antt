@@ -5,12 +5,13 @@ use mathlib.Core.Path.{_≡_, refl, sym, _∙_, subst}
 use Prim.Native.Nat.{_*_, _≤_, _<_, zero-le}
 use mathlib.Core.Logic.{_⊎_, inl, inr}
 use native.Mathlib.Nat.{lt-of-le-of-lt, lt-of-not-le, not-le-of-lt}
-use mathlib.Core.Bool.{Bool, true, false, not, _&&_, _||_, true≢false, false≢true}
+use mathlib.Core.Bool.{Bool, true, false, not, _&&_, true≢false, false≢true}
 use lib.Dec.{T, ltb, eqb, ltb→lt, lt→ltb, nltb→le, eqb→eq}
 use lib.Ieee.{Float, nan, inf, fin, up, down, lt, le, eq}
 use lib.Ieee.Bits.{is-true}
 use lib.Ieee.Fits.{and-l, and-i, eq→eqb}
 use lib.Ieee.Positive.{num, den, positive, first-pos}
+use Rattle.rounding.proofs.Order.{or-left}
 use Rattle.rounding.proofs.FromZero.{nonneg, unsigned, nonneg-below, cross-of-le, le-of-cross}
 
 -- ---- a test that was taken or left
@@ -78,12 +79,9 @@ module _ (x y : Float) (p : T (nonneg x)) (q : T (nonneg y)) where
   eq-false e h = true≢false (sym (eq-is-true h) ∙ e)
 
 -- ---- of any two values, `<` implies `<=`
-or-left : (a b : Bool) → a ≡ true → T (a || b)
-or-left a b e = subst (λ (x : Bool). T (x || b)) (sym e) tt
-
 pub le-of-lt : (x y : Float) → lt x y ≡ true → T (le x y)
 unfolding le
-le-of-lt x y e = or-left (lt x y) (eq x y) e
+le-of-lt x y e = or-left (lt x y) (eq x y) (holds (lt x y) e)
 
 -- a value with no minus sign that is below x is not at least x
 pub lt-not-le : (x y : Float) → T (nonneg x) → T (unsigned y) → lt y x ≡ true → T (le x y) → ⊥

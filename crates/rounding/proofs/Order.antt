@@ -1,7 +1,7 @@
 -- The order of values as the tests `<` and `<=` have it, of every sign, both zeros and the infinities among them: `<=` leads on from value to value, and of
 -- two values that are not NaN one is at most the other. A finite value is a signed fraction, so the order is one of whole numbers with signs. Assumes nothing.
 use mathlib.Core.Path.{_≡_, refl, sym, subst}
-use mathlib.Core.Logic.{_⊎_, inl, inr}
+use mathlib.Core.Logic.{inl, inr}
 use Prim.Native.Nat.{ℕ, zero, suc, _+_, _*_, _≤_, _<_, zero-le}
 use native.Mathlib.Nat.{le-refl, le-of-lt, le-of-eq, le-trans, eq-or-lt-of-le, not-le-of-lt, mul-pos, zero-mul, zero-lt-suc}
 use native.Mathlib.Omega.{arith}
@@ -10,13 +10,10 @@ use lib.Dec.{T, ltb, eqb, eqb→eq, ltb→lt, lt→ltb, nltb→le}
 use lib.Ieee.{Float, nan, inf, fin, up, down, below, level, isNan, lt, le}
 use lib.Ieee.Fits.{and-l, and-r, and-i, eq→eqb, down-pos}
 use lib.Ieee.Positive.{through}
+use mir.Facts.{or-yes}
 
 -- ---- whole numbers
-or-split : (a b : Bool) → T (a || b) → T a ⊎ T b
-or-split true b t = inl tt
-or-split false b t = inr t
-
-or-left : (a b : Bool) → T a → T (a || b)
+pub or-left : (a b : Bool) → T a → T (a || b)
 or-left true b t = tt
 or-left false b t = absurd t
 
@@ -26,7 +23,7 @@ or-right false b t = t
 
 -- "below, or equal", by any test for equality
 to-le : (a b : ℕ) (e : Bool) → (T e → a ≡ b) → T (ltb a b || (e && true)) → a ≤ b
-to-le a b e f t = elim (or-split (ltb a b) (e && true) t) [ inl u ↦ le-of-lt (ltb→lt a b u) | inr u ↦ le-of-eq (f (and-l e true u)) ]
+to-le a b e f t = elim (or-yes (ltb a b) (e && true) t) [ inl u ↦ le-of-lt (ltb→lt a b u) | inr u ↦ le-of-eq (f (and-l e true u)) ]
 
 of-le : (a b : ℕ) (e : Bool) → (a ≡ b → T e) → a ≤ b → T (ltb a b || (e && true))
 of-le a b e f h =
@@ -100,9 +97,9 @@ module _ (x y z p q r : ℕ) (P : 0 < p) (Q : 0 < q) (R : 0 < r) where
 
 -- ---- values
 -- the infinities
-lowest : (y : Float) → isNan y ≡ false → T (le (inf true) y)
+lowest : (y : Float) → T (not (isNan y)) → T (le (inf true) y)
 unfolding isNan le
-lowest nan n = absurd (true≢false n)
+lowest nan n = absurd n
 lowest (inf true) n = tt
 lowest (inf false) n = tt
 lowest (fin s m e) n = tt
@@ -115,15 +112,15 @@ highest (inf false) h = refl
 highest (fin s m e) h = absurd h
 
 -- what `<=` holds of is no NaN
-pub le-number : (x y : Float) → T (le x y) → isNan y ≡ false
+pub le-number : (x y : Float) → T (le x y) → T (not (isNan y))
 unfolding isNan le
 le-number nan y h = absurd h
 le-number (inf s) nan h = absurd h
-le-number (inf s) (inf t) h = refl
-le-number (inf s) (fin t n d) h = refl
+le-number (inf s) (inf t) h = tt
+le-number (inf s) (fin t n d) h = tt
 le-number (fin s m e) nan h = absurd h
-le-number (fin s m e) (inf t) h = refl
-le-number (fin s m e) (fin t n d) h = refl
+le-number (fin s m e) (inf t) h = tt
+le-number (fin s m e) (fin t n d) h = tt
 
 pub le-chain : (x y z : Float) → T (le x y) → T (le y z) → T (le x z)
 unfolding le
@@ -140,23 +137,23 @@ le-chain (fin s m e) (fin t n d) (fin u l g) h k =
     of-most s _ u _
     (chain (m * up e) (n * up d) (l * up g) (down e) (down d) (down g) (down-pos e) (down-pos d) (down-pos g) s t u (most-of s _ t _ h) (most-of t _ u _ k))
 
-pub le-itself : (x : Float) → isNan x ≡ false → T (le x x)
+pub le-itself : (x : Float) → T (not (isNan x)) → T (le x x)
 unfolding isNan le
-le-itself nan n = absurd (true≢false n)
+le-itself nan n = absurd n
 le-itself (inf true) n = tt
 le-itself (inf false) n = tt
 le-itself (fin true m e) n = of-most true _ true _ (le-refl (m * up e * down e))
 le-itself (fin false m e) n = of-most false _ false _ (le-refl (m * up e * down e))
 
-pub le-of-not-lt : (x y : Float) → isNan x ≡ false → isNan y ≡ false → lt y x ≡ false → T (le x y)
+pub le-of-not-lt : (x y : Float) → T (not (isNan x)) → T (not (isNan y)) → lt y x ≡ false → T (le x y)
 unfolding isNan lt le
-le-of-not-lt nan y p q h = absurd (true≢false p)
+le-of-not-lt nan y p q h = absurd p
 le-of-not-lt (inf true) y p q h = lowest y q
-le-of-not-lt (inf false) nan p q h = absurd (true≢false q)
+le-of-not-lt (inf false) nan p q h = absurd q
 le-of-not-lt (inf false) (inf true) p q h = absurd (true≢false h)
 le-of-not-lt (inf false) (inf false) p q h = tt
 le-of-not-lt (inf false) (fin t n d) p q h = absurd (true≢false h)
-le-of-not-lt (fin s m e) nan p q h = absurd (true≢false q)
+le-of-not-lt (fin s m e) nan p q h = absurd q
 le-of-not-lt (fin s m e) (inf true) p q h = absurd (true≢false h)
 le-of-not-lt (fin s m e) (inf false) p q h = tt
 le-of-not-lt (fin s m e) (fin t n d) p q h = of-most s _ t _ (not-below s _ t _ (subst (λ (b : Bool). T (not b)) (sym h) tt))

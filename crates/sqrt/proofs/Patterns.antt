@@ -14,6 +14,7 @@ use lib.Ieee.Compare.{nan-differs}
 use lib.Ieee.Fits.{down-pos}
 use lib.Ieee.Exact.{HasValue, odd-sign}
 use borrow.Author.Tests.{eq-eqb, ne-eqb}
+use Rattle.rounding.proofs.Numbers.{value-no-nan}
 use Rattle.sqrt.specs.inner.Steps.{unitsOf}
 use Rattle.sqrt.proofs.Shift.{size-exact}
 
@@ -89,10 +90,6 @@ toBits-value f (fin true m e) a h = absurd (true≢false (h .0))
 toBits-value f (fin false m e) a h =
     ap (λ (n : ℕ). 0 + (size n - prec f) * hid f + n / 2 ^ (size n - prec f)) (ap (λ (x : ℕ). x / down e) (h .1) ∙ mul-div-cancel a (down-pos e))
     ∙ ap (λ (x : ℕ). x + a / 2 ^ (size a - prec f)) (zero-add ((size a - prec f) * hid f))
-
-pub value-no-nan : (v : Float) (s : Bool) (a c : ℕ) → HasValue v s a c → T (not (isNan v))
-unfolding isNan
-value-no-nan (fin t m e) s a c h = tt
 
 pub finite-no-nan : (b : ℕ) → b < 0x7ff0_0000_0000_0000 → T (not (nanBits binary64 b))
 finite-no-nan b l = subst (λ (v : Bool). T (not v)) (sym (nanBits-is binary64 b)) (value-no-nan (ofBits binary64 b) false (unitsOf b) (2 ^ 1074) (value-of b l))

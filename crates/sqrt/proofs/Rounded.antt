@@ -15,7 +15,8 @@ use Rattle.sqrt.specs.Sqrt.{rounded}
 use Rattle.sqrt.specs.inner.Steps.{Rooted}
 use Rattle.sqrt.proofs.Roots.{root-is, sq-lt-back, sq-pow, four-pos}
 use Rattle.sqrt.proofs.Shift.{size-exact}
-use Rattle.sqrt.proofs.Patterns.{toBits-value, bits-of, value-no-nan}
+use Rattle.rounding.proofs.Numbers.{value-no-nan}
+use Rattle.sqrt.proofs.Patterns.{toBits-value, bits-of}
 
 -- the root of what lies between two squares
 root-lt : (n b : ℕ) → n < b * b → root n < b

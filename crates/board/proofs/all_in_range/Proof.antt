@@ -9,23 +9,10 @@ use Rattle.board.proofs.all_in_range.Tie as tie
 returns : tie.Need-returns
 unfolding allInRange ofBits
 returns c =
-    let first = c .before in
-    let rest = first .before in
-    let second = rest .before in
-    let later = second .before in
-    let fourth = later .before in
-    c .both3 .ensures
-    ∙ rw (
-      first .in-range4 .ensures,
-      rest .both2 .ensures,
-      second .in-range3 .ensures,
-      later .both .ensures,
-      fourth .in-range2 .ensures,
-      fourth .before .in-range .ensures,
-    )
+    let third = c .before .before in
+    let second = third .before in
+    c .all-four .ensures ∙ rw (c .before .in-range4 .ensures, third .in-range3 .ensures, second .in-range2 .ensures, second .before .in-range .ensures)
 
 pub all-in-range-spec : {M : Type 1} → statement M
 all-in-range-spec =
-    tie.close
-    (tie.spec (λ c κs. search needs) (λ c κs. search needs) (λ c κs. search needs) (λ c κs. search needs) (λ c κs. search needs)
-    (λ c κs. search needs) (λ c κs. search needs) returns)
+    tie.close (tie.spec (λ c κs. search needs) (λ c κs. search needs) (λ c κs. search needs) (λ c κs. search needs) (λ c κs. search needs) returns)
