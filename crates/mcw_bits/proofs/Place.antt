@@ -1,17 +1,17 @@
 -- One place of MultiMCW: the race goes on by what the windows say; the places before 63 change nothing. Assumes nothing.
-use mathlib.Core.Path.{_≡_, refl, _∙_}
+use mathlib.Core.Path.{_≡_, _∙_}
 use mathlib.Core.List.{List}
-use Prim.Native.Nat.{ℕ, zero, suc, _+_, _-_, _≤_, _<_, max}
+use Prim.Native.Nat.{ℕ, zero, suc, _+_, _-_, _≤_, _<_}
 use native.Mathlib.Omega.{arith}
 use lib.Dec.{leb}
-use lib.ListN.{length, getD, replicate}
+use lib.ListN.{length, replicate}
 use borrow.Author.Tests.{leb-true, leb-false, lt-leb}
 use Rattle.race.specs.Race.{silent, judge, scored, sample}
 use Rattle.race.specs.inner.Held.{heardFrom, after, tallied, counterLimit, Countable, Led, Leadable}
 use Rattle.race.specs.declared.Leader.{Leader}
 use Rattle.race.specs.declared.Tally.{Tally}
 use Rattle.race.proofs.Cases.{tested}
-use Rattle.race.proofs.Step.{Raced, race-starts, race-winner, race-length, race-countable, race-scorable, race-idle, race-step}
+use Rattle.race.proofs.Step.{Raced, race-starts, race-winner, race-length, race-countable, race-leadable, race-idle, race-step}
 use Rattle.mcw_bits.specs.inner.Counts.{countsOf}
 use Rattle.mcw_bits.specs.Mcw.{size, said}
 use Rattle.mcw_bits.specs.declared.Counts.{Counts}
@@ -26,11 +26,10 @@ four P a b c d (suc (suc (suc (suc j)))) l = absurd (omega arith)
 
 -- the race before place i
 pub record RacedAt (s : List ℕ) (i : ℕ) (leader : Leader) (scores : List ℕ) (t : Tally) : Type 0 where
-  pub raced : Raced 4 (size 0) (said s) (sample s) (i - size 0) (leader .winner) scores t
-  pub bar-is : leader .bar ≡ max (getD scores (leader .winner) 0) 1
+  pub raced : Raced 4 (size 0) (said s) (sample s) (i - size 0) leader scores t
 
 pub mcw-starts : (s : List ℕ) → RacedAt s 0 (record { winner = 0; bar = 1 }) (replicate 4 0) (record { hits = 0; run = 0; longest = 0 })
-mcw-starts s = record { raced = race-starts 4 (size 0) (said s) (sample s); bar-is = refl }
+mcw-starts s = record { raced = race-starts 4 (size 0) (said s) (sample s) (omega arith) }
 
 -- no window takes part before the first place
 said-silent : (s : List ℕ) (i : ℕ) → i < size 0 → (j : ℕ) → j < 4 → said s i j ≡ silent
@@ -50,7 +49,7 @@ module _ {s : List ℕ} {i : ℕ} {leader : Leader} {scores : List ℕ} {t : Tal
   mcw-countable b l = race-countable (R .raced) _ b (omega arith)
 
   pub mcw-leadable : {x : ℕ} {gs : List ℕ} → x < 256 → i < counterLimit → length gs ≡ 4 → Leadable scores gs leader x
-  mcw-leadable b l e = record { ready = race-scorable (R .raced) _ _ b (omega arith) (omega arith) e; bar-is = R .bar-is }
+  mcw-leadable b l e = race-leadable (R .raced) _ _ b (omega arith) (omega arith) e
 
   -- the guesses gs of place i, where x comes
   module _ {x : ℕ} (gs : List ℕ) (many : length gs ≡ 4) (came : x ≡ sample s i) (heard-as : (j : ℕ) → j < 4 → heardFrom gs j ≡ said s i j)
@@ -61,17 +60,13 @@ module _ {s : List ℕ} {i : ℕ} {leader : Leader} {scores : List ℕ} {t : Tal
     early l =
         let e : i + 1 - size 0 ≡ i - size 0 = omega arith in
         let quiet : (j : ℕ) → j < 4 → heardFrom gs j ≡ silent = λ j b. heard-as j b ∙ said-silent s i l j b in
-        record { raced = rw e (race-idle (R .raced) x gs (omega arith) many quiet (leader′ .winner) scores′ t′ (L .stands) te); bar-is = L .bar-is }
+        record { raced = rw e (race-idle (R .raced) x gs (omega arith) many quiet L te) }
 
     predicted : size 0 ≤ i → RacedAt s (i + 1) leader′ scores′ t′
     predicted l =
         let e : i + 1 - size 0 ≡ i - size 0 + 1 = omega arith in
         let p : size 0 + (i - size 0) ≡ i = omega arith in
-        record {
-          raced = rw e
-              (race-step (R .raced) x gs (omega arith) many (rw p came) (λ j b. rw p (heard-as j b)) (leader′ .winner) scores′ t′ (L .stands) te);
-          bar-is = L .bar-is;
-        }
+        record { raced = rw e (race-step (R .raced) x gs (omega arith) many (rw p came) (λ j b. rw p (heard-as j b)) L te) }
 
     pub mcw-step : RacedAt s (i + 1) leader′ scores′ t′
     mcw-step = tested (leb (size 0) i) (λ q. predicted (leb-true _ _ q)) (λ q. early (leb-false _ _ q))

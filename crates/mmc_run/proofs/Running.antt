@@ -16,9 +16,10 @@ use Rattle.capture.specs.declared.Spot.{Spot}
 use Rattle.capture.proofs.Limits.{source-short}
 use Rattle.capture.proofs.Walking.{spot-bit, spot-next, spot-after, spot-inside}
 use Rattle.race.specs.Race.{silent, judge, scored, sample}
-use Rattle.race.specs.inner.Held.{silence, heardFrom, after, tallied, counterLimit, Countable, Scorable}
+use Rattle.race.specs.inner.Held.{silence, heardFrom, after, tallied, counterLimit, Countable, Led, Leadable}
+use Rattle.race.specs.declared.Leader.{Leader}
 use Rattle.race.specs.declared.Tally.{Tally}
-use Rattle.race.proofs.Step.{Raced, race-starts, race-length, race-winner, race-countable, race-scorable, race-idle, race-step}
+use Rattle.race.proofs.Step.{Raced, race-starts, race-length, race-winner, race-countable, race-leadable, race-idle, race-step}
 use Rattle.mmc_bits.specs.Levels.{levels, cap, firstPlace}
 use Rattle.mmc_bits.specs.Counters.{context}
 use Rattle.mmc_bits.specs.Guesses.{guess}
@@ -41,11 +42,11 @@ are-bits symbols width n j = tested (ltb j n)
 -- ---- what the code holds before place i
 
 -- of the race: its places before i are past
-abbrev pub RacedTo : List ℕ → ℕ → ℕ → ℕ → ℕ → List ℕ → Tally → Type 0
-RacedTo symbols width n i winner scores t =
-    Raced levels firstPlace (guess cap (bitsOf symbols width n)) (sample (bitsOf symbols width n)) (i - firstPlace) winner scores t
+abbrev pub RacedTo : List ℕ → ℕ → ℕ → ℕ → Leader → List ℕ → Tally → Type 0
+RacedTo symbols width n i leader scores t =
+    Raced levels firstPlace (guess cap (bitsOf symbols width n)) (sample (bitsOf symbols width n)) (i - firstPlace) leader scores t
 
-pub record Running (symbols : List ℕ) (width n : ℕ) (counters₀ counters gs scores : List ℕ) (winner : ℕ) (t : Tally) (spot : Spot)
+pub record Running (symbols : List ℕ) (width n : ℕ) (counters₀ counters gs scores : List ℕ) (leader : Leader) (t : Tally) (spot : Spot)
     (recent stored i : ℕ) : Type 0 where
   pub some : i ≤ n
   pub spot-is : spot ≡ spotOf width i
@@ -54,7 +55,7 @@ pub record Running (symbols : List ℕ) (width n : ℕ) (counters₀ counters gs
   pub counted : counters ≡ span cap 1 levels (bitsOf symbols width n) i ++ drop (size levels) counters₀
   pub quiet : drop i gs ≡ replicate (levels - i) silence
   pub full : length gs ≡ levels
-  pub raced : RacedTo symbols width n i winner scores t
+  pub raced : RacedTo symbols width n i leader scores t
 
 same-tally : {a b c x y z : ℕ} → a ≡ x → b ≡ y → c ≡ z
     → _≡_ {A = Tally} (record { hits = a; run = b; longest = c }) (record { hits = x; run = y; longest = z })
@@ -63,8 +64,8 @@ same-tally e f g = cc
 module _ {symbols : List ℕ} {width n : ℕ} (S : Source symbols width n) where
   -- from cleared counters
   pub running-starts : {counters : List ℕ} {spot : Spot} → counters ≡ replicate (size levels) 0 ++ drop (size levels) counters → spot ≡ spotOf width 0
-      → Running symbols width n counters counters (replicate levels silence) (replicate levels 0) 0 (record { hits = 0; run = 0; longest = 0 })
-      spot 0 0 0
+      → Running symbols width n counters counters (replicate levels silence) (replicate levels 0) (record { winner = 0; bar = 1 })
+      (record { hits = 0; run = 0; longest = 0 }) spot 0 0 0
   running-starts {counters} e f =
       record {
         some = omega arith;
@@ -74,11 +75,11 @@ module _ {symbols : List ℕ} {width n : ℕ} (S : Source symbols width n) where
         counted = rw (span-cleared cap levels (bitsOf symbols width n)) e;
         quiet = refl;
         full = refl;
-        raced = race-starts levels firstPlace (guess cap (bitsOf symbols width n)) (sample (bitsOf symbols width n));
+        raced = race-starts levels firstPlace (guess cap (bitsOf symbols width n)) (sample (bitsOf symbols width n)) (omega arith);
       }
 
-  module _ {counters₀ counters gs scores : List ℕ} {winner : ℕ} {t : Tally} {spot : Spot} {recent stored i : ℕ}
-      (R : Running symbols width n counters₀ counters gs scores winner t spot recent stored i) where
+  module _ {counters₀ counters gs scores : List ℕ} {leader : Leader} {t : Tally} {spot : Spot} {recent stored i : ℕ}
+      (R : Running symbols width n counters₀ counters gs scores leader t spot recent stored i) where
     -- ---- at the end
 
     pub running-ends : n ≤ i → t ≡ tallyOf levels cap (bitsOf symbols width n)
@@ -103,15 +104,15 @@ module _ {symbols : List ℕ} {width n : ℕ} (S : Source symbols width n) where
 
 -- ---- at a place: the bit there has been read
 
-pub record Place (symbols : List ℕ) (width n : ℕ) (counters₀ counters gs scores : List ℕ) (winner : ℕ) (t : Tally) (spot : Spot)
+pub record Place (symbols : List ℕ) (width n : ℕ) (counters₀ counters gs scores : List ℕ) (leader : Leader) (t : Tally) (spot : Spot)
     (recent stored i x : ℕ) : Type 0 where
   pub source : Source symbols width n
-  pub running : Running symbols width n counters₀ counters gs scores winner t spot recent stored i
+  pub running : Running symbols width n counters₀ counters gs scores leader t spot recent stored i
   pub inside : i < n
   pub read : x ≡ spotBit symbols spot
 
-module _ {symbols : List ℕ} {width n : ℕ} {counters₀ counters gs scores : List ℕ} {winner : ℕ} {t : Tally} {spot : Spot}
-    {recent stored i x : ℕ} (P : Place symbols width n counters₀ counters gs scores winner t spot recent stored i x) where
+module _ {symbols : List ℕ} {width n : ℕ} {counters₀ counters gs scores : List ℕ} {leader : Leader} {t : Tally} {spot : Spot}
+    {recent stored i x : ℕ} (P : Place symbols width n counters₀ counters gs scores leader t spot recent stored i x) where
   bit-here : x ≡ getD (bitsOf symbols width n) i 0
   bit-here = P .read ∙ ap (spotBit symbols) (P .running .spot-is) ∙ spot-bit symbols width i ∙ sym (bits-at symbols width n i (P .inside))
 
@@ -143,7 +144,7 @@ module _ {symbols : List ℕ} {width n : ℕ} {counters₀ counters gs scores : 
   pub scores-full : length scores ≡ levels
   scores-full = race-length (P .running .raced)
 
-  pub winner-low : winner < levels
+  pub winner-low : leader .winner < levels
   winner-low = race-winner (P .running .raced) (omega arith)
 
   few : i - firstPlace < counterLimit
@@ -157,35 +158,36 @@ module _ {symbols : List ℕ} {width n : ℕ} {counters₀ counters gs scores : 
     pub guesses-full : length gs′ ≡ levels
     guesses-full = ap length (A .said) ∙ length-guesses cap levels (bitsOf symbols width n) i
 
-    pub can-score : Scorable scores gs′ winner x
-    can-score = race-scorable (P .running .raced) x gs′ (omega (arith, bit-low)) few (omega arith) guesses-full
+    pub can-lead : Leadable scores gs′ leader x
+    can-lead = race-leadable (P .running .raced) x gs′ (omega (arith, bit-low)) few (omega arith) guesses-full
 
     heard-here : (j : ℕ) → j < levels → heardFrom gs′ j ≡ guess cap (bitsOf symbols width n) i j
     heard-here j l = ap (λ (hs : List ℕ). heardFrom hs j) (A .said) ∙ guesses-heard cap levels (bitsOf symbols width n) i j l
 
     -- the race goes on; before the first predicted place every level is silent
-    module _ {winner′ : ℕ} {scores′ : List ℕ} {t′ : Tally} (se : after winner′ scores′ ≡ scored (heardFrom gs′) x (after winner scores) (length gs′))
-        (te : t′ ≡ tallied (judge (heardFrom gs′ winner) x) t) where
-      early : i < firstPlace → RacedTo symbols width n (i + 1) winner′ scores′ t′
+    module _ {leader′ : Leader} {scores′ : List ℕ} {t′ : Tally}
+        (L : Led (scored (heardFrom gs′) x (after (leader .winner) scores) (length gs′)) leader′ scores′)
+        (te : t′ ≡ tallied (judge (heardFrom gs′ (leader .winner)) x) t) where
+      early : i < firstPlace → RacedTo symbols width n (i + 1) leader′ scores′ t′
       early l =
           let e : i - firstPlace ≡ i + 1 - firstPlace = omega arith in
           let quiet : (j : ℕ) → j < levels → heardFrom gs′ j ≡ silent =
           λ j k. heard-here j k ∙ guess-late cap (bitsOf symbols width n) i j (omega arith) in
-          rw e at (race-idle (P .running .raced) x gs′ (omega arith) guesses-full quiet winner′ scores′ t′ se te)
+          rw e at (race-idle (P .running .raced) x gs′ (omega arith) guesses-full quiet L te)
 
-      predicted : firstPlace ≤ i → RacedTo symbols width n (i + 1) winner′ scores′ t′
+      predicted : firstPlace ≤ i → RacedTo symbols width n (i + 1) leader′ scores′ t′
       predicted l =
           let e : i - firstPlace + 1 ≡ i + 1 - firstPlace = omega arith in
           let g : i ≡ firstPlace + (i - firstPlace) = omega arith in
           rw e at
           (race-step (P .running .raced) x gs′ (omega arith) guesses-full (bit-here ∙ ap (sample (bitsOf symbols width n)) g)
-          (λ j k. heard-here j k ∙ ap (λ (p : ℕ). guess cap (bitsOf symbols width n) p j) g) winner′ scores′ t′ se te)
+          (λ j k. heard-here j k ∙ ap (λ (p : ℕ). guess cap (bitsOf symbols width n) p j) g) L te)
 
-      raced-next : RacedTo symbols width n (i + 1) winner′ scores′ t′
+      raced-next : RacedTo symbols width n (i + 1) leader′ scores′ t′
       raced-next = tested (ltb i firstPlace) (λ q. early (ltb-true _ _ q)) (λ q. predicted (ltb-false _ _ q))
 
       pub running-next : {spot′ : Spot} → spot′ ≡ nextSpot width spot
-          → Running symbols width n counters₀ counters′ gs′ scores′ winner′ t′ spot′ ((recent * 2 + x) % 65536) stored′ (i + 1)
+          → Running symbols width n counters₀ counters′ gs′ scores′ leader′ t′ spot′ ((recent * 2 + x) % 65536) stored′ (i + 1)
       running-next q =
           record {
             some = omega (arith, P .inside);

@@ -4,10 +4,11 @@ use capture::bits::first_spot;
 use capture::bits::next_spot;
 use mmc_bits::clear::clear;
 use mmc_bits::place::place;
+use race::Leader;
 use race::SILENT;
 use race::Tally;
 use race::count;
-use race::score;
+use race::lead;
 ghost use mathlib.Core.Path.{_≡_};
 ghost use mathlib.Core.List.{_++_};
 ghost use lib.ListN.{length, drop, replicate};
@@ -38,7 +39,7 @@ fn run(symbols: &[u8], width: u32, n: usize, counters: &mut [u32]) -> Tally
 {
     let mut guesses = [SILENT; 16];
     let mut scores = [0u64; 16];
-    let mut winner: usize = 0;
+    let mut leader = Leader { winner: 0, bar: 1 };
     let mut tally = Tally {
         hits: 0,
         run: 0,
@@ -51,8 +52,9 @@ fn run(symbols: &[u8], width: u32, n: usize, counters: &mut [u32]) -> Tally
     while i < n {
         let x = bit_at(symbols, spot);
         stored = place(counters, &mut guesses, i, recent, x as usize, stored);
+        let winner = leader.winner;
         tally = count(tally, guesses[winner], x as u16);
-        winner = score(&mut scores, &guesses, winner, x as u16);
+        leader = lead(&mut scores, &guesses, leader, x as u16);
         recent = (recent * 2 + x as usize) % 65536;
         spot = next_spot(width, spot);
         i += 1;

@@ -10,9 +10,10 @@ use lib.Seq.{length-take-le, length-front, drop-append-add, drop-drop}
 use borrow.Author.Tests.{le-ltb}
 use Rattle.capture.specs.Limit.{symbolLimit}
 use Rattle.race.specs.Race.{silent, judge, scored, sample}
-use Rattle.race.specs.inner.Held.{heard, heardFrom, after, tallied, counterLimit, Countable, Scorable}
+use Rattle.race.specs.inner.Held.{heard, heardFrom, after, tallied, counterLimit, Countable, Led, Leadable}
+use Rattle.race.specs.declared.Leader.{Leader}
 use Rattle.race.specs.declared.Tally.{Tally}
-use Rattle.race.proofs.Step.{Raced, race-starts, race-length, race-winner, race-countable, race-scorable, race-idle, race-step}
+use Rattle.race.proofs.Step.{Raced, race-starts, race-length, race-winner, race-countable, race-leadable, race-idle, race-step}
 use Rattle.mmc_bits.specs.Levels.{firstPlace}
 use Rattle.table.specs.inner.Table as T
 use Rattle.mmc_store.specs.Levels.{level, guess}
@@ -26,13 +27,13 @@ use Rattle.mmc_store.proofs.Parts.{zeros-at, zeros-part}
 use Rattle.mmc_store.proofs.Kept.{empty-kept}
 
 -- what the code holds before place i
-pub record Run (n cap : ℕ) (s space entries nodes scores : List ℕ) (winner : ℕ) (tally : Tally) (i : ℕ) : Type 0 where
+pub record Run (n cap : ℕ) (s space entries nodes scores : List ℕ) (leader : Leader) (tally : Tally) (i : ℕ) : Type 0 where
   pub some : 0 < n
   pub short : length s ≤ symbolLimit
   pub bytes : (j : ℕ) → getD s j 0 < 256
   pub within : i ≤ length s
   pub stands : Stands n cap s i entries nodes space
-  pub raced : Raced n firstPlace (guess cap s) (sample s) (i - firstPlace) winner scores tally
+  pub raced : Raced n firstPlace (guess cap s) (sample s) (i - firstPlace) leader scores tally
 
 -- ---- k numbers were cleared, and no place is counted
 module _ (n cap k : ℕ) (s m : List ℕ) (long : k ≡ suc n * T.size) (clear : m ≡ replicate k 0) where
@@ -64,20 +65,20 @@ module _ (n cap k : ℕ) (s m : List ℕ) (long : k ≡ suc n * T.size) (clear :
   }
 
   pub run-start : 0 < n → length s ≤ symbolLimit → ((j : ℕ) → getD s j 0 < 256) →
-      Run n cap s m (replicate n 0) (replicate (suc n) 0) (replicate n 0) 0 (record { hits = 0; run = 0; longest = 0 }) 0
+      Run n cap s m (replicate n 0) (replicate (suc n) 0) (replicate n 0) (record { winner = 0; bar = 1 }) (record { hits = 0; run = 0; longest = 0 }) 0
   run-start some short bytes = record {
     some = some;
     short = short;
     bytes = bytes;
     within = omega arith;
     stands = record { held = held-start; spots = spots-start };
-    raced = race-starts n firstPlace (guess cap s) (sample s);
+    raced = race-starts n firstPlace (guess cap s) (sample s) some;
   }
 
 -- ---- one place
-module _ {n cap : ℕ} {s space es nodes scores : List ℕ} {winner : ℕ} {tally : Tally} {i : ℕ}
-    (r : Run n cap s space es nodes scores winner tally i) where
-  pub winner-lt : winner < n
+module _ {n cap : ℕ} {s space es nodes scores : List ℕ} {leader : Leader} {tally : Tally} {i : ℕ}
+    (r : Run n cap s space es nodes scores leader tally i) where
+  pub winner-lt : leader .winner < n
   winner-lt = race-winner (r .raced) (r .some)
 
   pub scores-full : length scores ≡ n
@@ -94,8 +95,8 @@ module _ {n cap : ℕ} {s space es nodes scores : List ℕ} {winner : ℕ} {tall
     countable = race-countable (r .raced) (getD s i 0) (r .bytes i) few
 
     module _ {gs : List ℕ} (said : Said n cap s i gs) where
-      pub scorable : Scorable scores gs winner (getD s i 0)
-      scorable = race-scorable (r .raced) (getD s i 0) gs (r .bytes i) few (r .some) (said .full)
+      pub leadable : Leadable scores gs leader (getD s i 0)
+      leadable = race-leadable (r .raced) (getD s i 0) gs (r .bytes i) few (r .some) (said .full)
 
       says : (j : ℕ) → j < n → heardFrom gs j ≡ guess cap s i j
       says j h = ap heard (said .each j h) ∙ heard-guess cap s i j
@@ -103,23 +104,23 @@ module _ {n cap : ℕ} {s space es nodes scores : List ℕ} {winner : ℕ} {tall
       silent-before : i < firstPlace → (j : ℕ) → j < n → heardFrom gs j ≡ silent
       silent-before l j h = ap heard (said .each j h ∙ quiet-guess cap s i j (omega arith))
 
-      module _ {winner′ : ℕ} {scores′ : List ℕ} {tally′ : Tally}
-          (se : after winner′ scores′ ≡ scored (heardFrom gs) (getD s i 0) (after winner scores) (length gs))
-          (te : tally′ ≡ tallied (judge (heardFrom gs winner) (getD s i 0)) tally) where
-        raced-next : Raced n firstPlace (guess cap s) (sample s) (i + 1 - firstPlace) winner′ scores′ tally′
+      module _ {leader′ : Leader} {scores′ : List ℕ} {tally′ : Tally}
+          (L : Led (scored (heardFrom gs) (getD s i 0) (after (leader .winner) scores) (length gs)) leader′ scores′)
+          (te : tally′ ≡ tallied (judge (heardFrom gs (leader .winner)) (getD s i 0)) tally) where
+        raced-next : Raced n firstPlace (guess cap s) (sample s) (i + 1 - firstPlace) leader′ scores′ tally′
         raced-next = go (decLt i firstPlace)
           where
-            go : Dec (i < firstPlace) → Raced n firstPlace (guess cap s) (sample s) (i + 1 - firstPlace) winner′ scores′ tally′
+            go : Dec (i < firstPlace) → Raced n firstPlace (guess cap s) (sample s) (i + 1 - firstPlace) leader′ scores′ tally′
             go (yes l) =
                 let e : i + 1 - firstPlace ≡ i - firstPlace = omega arith in
-                rw e (race-idle (r .raced) (getD s i 0) gs (r .some) (said .full) (silent-before l) winner′ scores′ tally′ se te)
+                rw e (race-idle (r .raced) (getD s i 0) gs (r .some) (said .full) (silent-before l) L te)
             go (no f) =
                 let e : i + 1 - firstPlace ≡ i - firstPlace + 1 = omega arith in
                 let p : firstPlace + (i - firstPlace) ≡ i = omega arith in
-                rw e (race-step (r .raced) (getD s i 0) gs (r .some) (said .full) (rw p) (rw p says) winner′ scores′ tally′ se te)
+                rw e (race-step (r .raced) (getD s i 0) gs (r .some) (said .full) (rw p) (rw p says) L te)
 
         pub run-next : {space′ es′ nodes′ : List ℕ} → Stands n cap s (i + 1) es′ nodes′ space′ →
-            Run n cap s space′ es′ nodes′ scores′ winner′ tally′ (i + 1)
+            Run n cap s space′ es′ nodes′ scores′ leader′ tally′ (i + 1)
         run-next stands = record {
           some = r .some;
           short = r .short;

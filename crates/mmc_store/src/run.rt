@@ -1,10 +1,11 @@
 // The whole run.
 use crate::place::at_place;
 use mmc_bits::clear::clear;
+use race::Leader;
 use race::SILENT;
 use race::Tally;
 use race::count;
-use race::score;
+use race::lead;
 ghost use mathlib.Core.Path.{_≡_};
 ghost use Prim.Native.Nat.{_≤_};
 ghost use lib.ListN.{length};
@@ -28,7 +29,7 @@ fn run(s: &[u8], space: &mut [u32]) -> Tally
     let mut entries = [0usize; 16];
     let mut nodes = [0usize; 17];
     let mut scores = [0u64; 16];
-    let mut winner: usize = 0;
+    let mut leader = Leader { winner: 0, bar: 1 };
     let mut tally = Tally {
         hits: 0,
         run: 0,
@@ -39,8 +40,9 @@ fn run(s: &[u8], space: &mut [u32]) -> Tally
         let mut guesses = [SILENT; 16];
         at_place(s, space, &mut entries, &mut nodes, &mut guesses, place);
         let x = s[place] as u16;
+        let winner = leader.winner;
         tally = count(tally, guesses[winner], x);
-        winner = score(&mut scores, &guesses, winner, x);
+        leader = lead(&mut scores, &guesses, leader, x);
         place += 1;
     }
     tally

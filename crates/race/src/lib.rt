@@ -1,9 +1,8 @@
 // Sub-predictors compete: the winner, the scores, the hits and the longest run. MultiMCW runs it with four windows, MultiMMC with sixteen levels.
 ghost use mathlib.Core.Path.{_≡_};
-ghost use Prim.Native.Nat.{max};
 ghost use lib.ListN.{length};
 ghost use Rattle.race.specs.Race.{judge, scored};
-ghost use Rattle.race.specs.inner.Held.{Countable, Leadable, Led, Scorable, after, heard, heardFrom, tallied};
+ghost use Rattle.race.specs.inner.Held.{Countable, Leadable, Led, after, heard, heardFrom, tallied};
 
 // The guess of a sub-predictor that does not take part.
 pub const SILENT: u16 = 256;
@@ -67,21 +66,4 @@ pub fn lead(scores: &mut [u64], guesses: &[u16], leader: Leader, x: u16) -> Lead
         j += 1;
     }
     Leader { winner, bar }
-}
-
-fn at_least_one(x: u64) -> u64
-    ensures { λ r. ⌜ r ≡ max x 1 ⌝ }
-{
-    if x < 1 { 1 } else { x }
-}
-
-// The same where only the winner is kept. Returns the winner.
-pub fn score(scores: &mut [u64], guesses: &[u16], winner: usize, x: u16) -> usize
-    requires { ⌜ Scorable (now scores) (now guesses) winner x ⌝ }
-    ensures { λ r.
-        ⌜ after r (now (scores .exit)) ≡ scored (heardFrom (now (guesses .entry))) x (after winner (now (scores .entry))) (length (now (guesses .entry))) ⌝ }
-{
-    let bar = at_least_one(scores[winner]);
-    let r = lead(scores, guesses, Leader { winner, bar }, x);
-    r.winner
 }

@@ -1,5 +1,5 @@
 -- `run` meets its contract: before place i it holds the counters, the context, the number of stored pairs and the race of the places before i, and
--- `place`, `count` and `score` take each of them over the place. Assumes nothing.
+-- `place`, `count` and `lead` take each of them over the place. Assumes nothing.
 use Prim.Native.Nat.{ℕ, _-_}
 use mathlib.Core.Path.{_≡_, refl, sym, _∙_}
 use mathlib.Core.List.{List}
@@ -13,7 +13,7 @@ use Rattle.mmc_run.proofs.Running.{
   Place,
   Running,
   can-count,
-  can-score,
+  can-lead,
   guesses-full,
   place-before,
   place-spot,
@@ -31,11 +31,11 @@ use Rattle.mmc_run.proofs.run.Statement.{statement}
 use Rattle.mmc_run.proofs.run.Tie as tie
 
 abbrev Inv-loop : tie.InvT-loop
-Inv-loop symbols width n counters₀ guesses₀ scores₀ winner₀ tally₀ spot₀ recent₀ stored₀ i₀ counters guesses scores winner tally spot recent stored i =
-    Running symbols width n counters₀ counters guesses scores winner tally spot recent stored i × (length counters ≡ length counters₀)
+Inv-loop symbols width n counters₀ guesses₀ scores₀ leader₀ tally₀ spot₀ recent₀ stored₀ i₀ counters guesses scores leader tally spot recent stored i =
+    Running symbols width n counters₀ counters guesses scores leader tally spot recent stored i × (length counters ≡ length counters₀)
 
 abbrev μ-loop : tie.MeasureT-loop
-μ-loop symbols width n counters₀ guesses₀ scores₀ winner₀ tally₀ spot₀ recent₀ stored₀ i₀ counters guesses scores winner tally spot recent stored i =
+μ-loop symbols width n counters₀ guesses₀ scores₀ leader₀ tally₀ spot₀ recent₀ stored₀ i₀ counters guesses scores leader tally spot recent stored i =
     n - i
 
 -- the entry, from the loop's head; the loop's head, from where the place's bit is read
@@ -62,7 +62,7 @@ bits a = bitsOf (now (start a .args .symbols)) (start a .args .width) (start a .
 here : (c : tie.After-bit-at Inv-loop μ-loop)
     → (let a = start (head c) .args in
     let l = head c .loop in
-    Place (now (a .symbols)) (a .width) (a .n) (now (a .counters)) (l .counters) (l .guesses) (l .scores) (l .winner) (l .tally) (l .spot)
+    Place (now (a .symbols)) (a .width) (a .n) (now (a .counters)) (l .counters) (l .guesses) (l .scores) (l .leader) (l .tally) (l .spot)
     (l .recent) (l .stored) (l .i) (c .bit-at .result))
 here c =
     record {
@@ -104,18 +104,18 @@ array-read-count c = winner-low (here (read (c .before .before)))
 count-requires : tie.Need-count-requires Inv-loop μ-loop
 count-requires c κs = can-count (here (read (c .before .before)))
 
-slice-aggregate-score : tie.Need-slice-aggregate-score Inv-loop μ-loop
-slice-aggregate-score c = sym (scores-full (here (read (levelled (c .before)))))
+slice-aggregate-lead : tie.Need-slice-aggregate-lead Inv-loop μ-loop
+slice-aggregate-lead c = sym (scores-full (here (read (levelled (c .before)))))
 
-slice-aggregate-score-2 : tie.Need-slice-aggregate-score-2 Inv-loop μ-loop
-slice-aggregate-score-2 c =
+slice-aggregate-lead-2 : tie.Need-slice-aggregate-lead-2 Inv-loop μ-loop
+slice-aggregate-lead-2 c =
     let p = levelled (c .before .before) in
     sym (guesses-full (here (read p)) (past p))
 
-score-requires : tie.Need-score-requires Inv-loop μ-loop
-score-requires c κs =
+lead-requires : tie.Need-lead-requires Inv-loop μ-loop
+lead-requires c κs =
     let p = levelled (c .before .before) in
-    can-score (here (read p)) (past p)
+    can-lead (here (read p)) (past p)
 
 mul-recent : tie.Need-mul-recent Inv-loop μ-loop
 mul-recent c = omega (arith, recent-fits (here (read (levelled (counted c)))))
@@ -126,11 +126,17 @@ add-recent c = omega (arith, recent-fits (here (read (levelled (counted c)))))
 next-spot-requires : tie.Need-next-spot-requires Inv-loop μ-loop
 next-spot-requires c κs = place-spot (here (read (levelled (counted c))))
 
+add-i : tie.Need-add-i Inv-loop μ-loop
+add-i c = let r = read (levelled (counted (c .before))) in omega (arith, here r .inside, start (head r) .fits .n)
+
+loop-less : tie.Need-loop-less Inv-loop μ-loop
+loop-less c = omega (arith, here (read (levelled (counted (c .before)))) .inside)
+
 loop-again : tie.Need-loop-again Inv-loop μ-loop
 loop-again c =
     let s = c .before in
     let p = levelled (counted s) in (
-      running-next (here (read p)) (past p) (s .before .score .ensures) (counted s .count .ensures) (c .next-spot .ensures),
+      running-next (here (read p)) (past p) (s .before .lead .ensures) (counted s .count .ensures) (c .next-spot .ensures),
       p .place .kept .0 ∙ head (read p) .loop .inv .1,
     )
 
@@ -157,16 +163,16 @@ run-spec =
     array-read-count
     (λ c. search needs)
     count-requires
-    slice-aggregate-score
-    slice-aggregate-score-2
+    slice-aggregate-lead
+    slice-aggregate-lead-2
     (λ c. search needs)
-    score-requires
+    lead-requires
     mul-recent
     (λ c. search needs)
     add-recent
     next-spot-requires
-    (λ c. omega arith)
-    (λ c. omega arith)
+    add-i
+    loop-less
     loop-again
     same-length
     returns)

@@ -1,5 +1,5 @@
 -- Before each place the lent numbers keep what every level has counted, and the race stands where its definition says; `at_place`, `count` and
--- `score` take both over the place. The first two places find every level silent, so they change nothing in the race. Assumes nothing.
+-- `lead` take both over the place. The first two places find every level silent, so they change nothing in the race. Assumes nothing.
 use Prim.Native.Nat.{_-_}
 use mathlib.Core.Path.{refl, sym, _∙_}
 use lib.Dec.{lit<}
@@ -8,16 +8,16 @@ use denote.Ref.{now}
 use lib.ListN.{length}
 use Rattle.mmc_bits.specs.Levels.{levels, cap}
 use Rattle.mmc_store.proofs.Small.{byte, fits-symbol, fits-next, fits-limit, falls}
-use Rattle.mmc_store.proofs.Running.{Run, run-start, place-of, winner-lt, scores-full, countable, scorable, run-next, run-tally}
+use Rattle.mmc_store.proofs.Running.{Run, run-start, place-of, winner-lt, scores-full, countable, leadable, run-next, run-tally}
 use Rattle.mmc_store.proofs.run.run.Statement.{statement}
 use Rattle.mmc_store.proofs.run.run.Tie as tie
 
 abbrev Inv-loop : tie.InvT-loop
-Inv-loop s space₀ entries₀ nodes₀ scores₀ winner₀ tally₀ place₀ space entries nodes scores winner tally place =
-    Run levels cap s space entries nodes scores winner tally place
+Inv-loop s space₀ entries₀ nodes₀ scores₀ leader₀ tally₀ place₀ space entries nodes scores leader tally place =
+    Run levels cap s space entries nodes scores leader tally place
 
 abbrev μ-loop : tie.MeasureT-loop
-μ-loop s space₀ entries₀ nodes₀ scores₀ winner₀ tally₀ place₀ space entries nodes scores winner tally place = length s - place
+μ-loop s space₀ entries₀ nodes₀ scores₀ leader₀ tally₀ place₀ space entries nodes scores leader tally place = length s - place
 
 -- the start, from where the numbers were cleared
 abbrev start : tie.After-clear Inv-loop μ-loop → tie.Start Inv-loop μ-loop
@@ -43,13 +43,13 @@ at-place-requires c κs =
     (test .before .loop .inv .stands, place-of (test .before .loop .inv) (test .loop-test .taken), refl)
 
 -- where the place's symbol was read, from where the place is scored
-abbrev read : tie.After-score Inv-loop μ-loop → tie.After-shared-slice-known2 Inv-loop μ-loop
+abbrev read : tie.After-lead Inv-loop μ-loop → tie.After-shared-slice-known2 Inv-loop μ-loop
 read c = c .before .before .before .before
 
-score-requires : tie.Need-score-requires Inv-loop μ-loop
-score-requires c κs =
+lead-requires : tie.Need-lead-requires Inv-loop μ-loop
+lead-requires c κs =
     let x = c .before .before .before in
-    scorable (here x .before .loop .inv) (here x .loop-test .taken) (past x .at-place .ensures .1)
+    leadable (here x .before .loop .inv) (here x .loop-test .taken) (past x .at-place .ensures .1)
 
 add-place : tie.Need-add-place Inv-loop μ-loop
 add-place c = let x = read (c .before) in fits-next _ _ (here x .loop-test .taken) (fits-limit _ (here x .before .loop .inv .short))
@@ -58,7 +58,7 @@ loop-again : tie.Need-loop-again Inv-loop μ-loop
 loop-again c =
     let x = read (c .before) in
     let told = past x .at-place .ensures in
-    run-next (here x .before .loop .inv) (here x .loop-test .taken) (told .1) (c .before .score .ensures) (c .before .before .before .before .count .ensures)
+    run-next (here x .before .loop .inv) (here x .loop-test .taken) (told .1) (c .before .lead .ensures) (c .before .before .before .before .count .ensures)
     (told .0)
 
 pub run-spec : {M : Type 1} → statement M
@@ -68,6 +68,6 @@ run-spec =
     (λ c. fits-symbol _ (here c .before .loop .inv .bytes _)) (λ c. scaled-fits _ levels 2 (winner-lt (here c .before .loop .inv)) (lit< tt))
     (λ c. winner-lt (here c .before .loop .inv)) (λ c κs. countable (here c .before .loop .inv) (here c .loop-test .taken))
     (λ c. sym (scores-full (here (c .before .before) .before .loop .inv))) (λ c. sym (past (c .before .before .before) .at-place .ensures .1 .full))
-    score-requires add-place (λ c. falls _ _ (here (read (c .before)) .loop-test .taken)) loop-again
+    lead-requires add-place (λ c. falls _ _ (here (read (c .before)) .loop-test .taken)) loop-again
     (λ c. c .before .loop .inv .stands .held .long ∙ sym (start (c .before .before .before .before) .pre .1))
     (λ c. run-tally (c .before .loop .inv) (c .loop-test .left)))
