@@ -1,8 +1,9 @@
-//! Builds what the package stands on: the proved library as an archive, and the Rust that it was
-//! ported from, where its sources are at hand.
+//! Builds what the package stands on: the proved library as an archive, the Rust that it was ported
+//! from, where its sources are at hand, and a loop in C, where there is a compiler for it.
 
 mod archive;
 mod arm;
+mod plain;
 mod reference;
 mod terminal;
 
@@ -16,6 +17,7 @@ fn main() {
         .expect("the package stands in the repository");
     archive::link(repository);
     reference::link(repository);
+    plain::link(&package);
     println!("cargo::rerun-if-changed=build");
 }
 

@@ -1,10 +1,11 @@
-//! The benchmark: the library's time over the Rust's in the same run, and how the library's time
-//! grows with the capture.
+//! The benchmark: the library's time over the Rust's in the same run, that of the translators over a
+//! plain loop's, and how the library's time grows with the capture.
 
 mod calls;
 mod captures;
 mod clock;
 mod crafted;
+mod lookup;
 mod records;
 mod track;
 
@@ -19,8 +20,9 @@ bench: the library's time beside the Rust's, both built for release
   bench [--symbols N] [--only NAME] [--grow]
 
   --symbols N   symbols in a capture (default 1000000)
-  --only NAME   one function, as multi_mcw_literal, or calls: the functions of numbers, or
-                records: a row of 1,000,000 of them
+  --only NAME   one function, as multi_mcw_literal, or lookup: the translators beside a plain
+                loop in C over a table of 256, or calls: the functions of numbers, or records: a
+                row of 1,000,000 of them
   --grow        the library's time for 10,000 to 16,777,216 symbols instead; a length that would
                 take over five minutes is left out
 
@@ -55,6 +57,9 @@ fn main() -> ExitCode {
     } else {
         if !tracks.is_empty() {
             ratios(&tracks, symbols);
+        }
+        if wanted("lookup") {
+            lookup::print(symbols);
         }
         if wanted("calls") {
             calls::print();

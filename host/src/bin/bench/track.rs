@@ -47,7 +47,8 @@ impl Track {
     }
 }
 
-fn all(capture: &Capture) -> bool {
+/// What the translators are measured on.
+pub fn all(capture: &Capture) -> bool {
     matches!(capture.kind, Kind::Usual | Kind::Gapped)
 }
 
