@@ -1,8 +1,8 @@
 """What the instructions of x86-64 (in Intel's notation) and of Arm's 64 bits do with values that come from memory.
 
-`effects` gives it in order: ("read", register, place), ("write", register, place, bytes), ("move", register, registers one of
-which it may get its value from), ("change", register), ("copy",) for an instruction that copies by itself. A place is an
-address as it is written. What is not known of an instruction that writes memory is refused, and not left out.
+`effects` gives it in order: ("read", register, place), ("write", register, place, bytes), ("move", register, the registers that
+its value may come from as it is, none for a new value), ("copy",) for an instruction that copies by itself. A place is an
+address as it is written. An instruction that writes memory and is not known is refused, and not left out.
 """
 import re
 
@@ -46,7 +46,9 @@ class X86:
     string = re.compile(r"(rep.*|movs[bwq]|stos.)$")
     # Moves of a whole register, and what may leave a part of one or select: bits of vectors too.
     whole = re.compile(r"v?mov(?!msk|[lh]p)")
-    part = re.compile(r"(cmov|v?mov[lh]p|v?pinsr|v?insert|v?pshuf|v?shufp|v?p?unpck|v?palignr|v?p?blend|v?p?extr|v?perm|v?pandn?$|v?por$|v?(and|andn|or)p[sd]$)")
+    part = re.compile(
+        r"(cmov|v?mov[lh]p|v?pinsr|v?insert|v?pshuf|v?shufp|v?p?unpck|v?palignr|v?p?blend|v?p?extr|v?perm|v?pandn?$|v?por$|v?(and|andn|or)p[sd]$)"
+    )
     updates = re.compile(r"(add|sub|adc|sbb|inc|dec|neg|not|and|or|xor|sh[lr]|sa[lr]|ro[lr]|bt[src]|set.*)$")
 
     @classmethod
@@ -67,8 +69,11 @@ class X86:
         if not parts or cls.no_effect.match(name):
             return []
         places, names = [cls.place(p) for p in parts], [cls.registers.get(p) for p in parts]
-        if name in ("push", "pop"):
-            return [("change", "rsp")] + ([("read", names[0], ELSEWHERE)] if name == "pop" else [])
+        if name == "push":
+            read = [("read", "memory", places[0][0])] if places[0] else []
+            return read + [("move", "rsp", []), ("write", "memory" if read else names[0], "rsp", 8)]
+        if name == "pop":
+            return [("move", "rsp", []), ("read", names[0], ELSEWHERE)]
         if name == "xchg" and all(names):
             return [("move", register, names) for register in names]
         whole, part = cls.whole.match(name), cls.part.match(name)
@@ -77,7 +82,7 @@ class X86:
                 raise Unknown(name)
             return [("write", names[1], *places[0])] if (whole or part) and names[1] else []
         if not (whole or part):
-            return [("change", names[0])] if names[0] else []
+            return [("move", names[0], [])] if names[0] else []
         read = [("read", "memory", place[0]) for place in places if place]
         sources = ["memory" if place else n for place, n in zip(places, names)]
         return read + [("move", names[0], [s for s in sources[bool(whole) :] if s])]
@@ -117,7 +122,7 @@ class Arm:
                 effects.append(("read", register, here) if name.startswith("ld") else ("write", register, here, size))
             place += size
         if parts[at].endswith("!") or parts[at + 1 :]:
-            effects.append(("change", cls.register(base)))
+            effects.append(("move", cls.register(base), []))
         return effects
 
     @classmethod
@@ -138,4 +143,4 @@ class Arm:
         lane = cls.part.match(name) or cls.whole.match(name) and "[" in parts[0]
         if lane or cls.whole.match(name):
             return [("move", names[0], [n for n in names[not lane :] if n])]
-        return [("change", names[0])]
+        return [("move", names[0], [])]
