@@ -81,10 +81,19 @@ void none_looked_up(const uint8_t *symbols, size_t count, const uint8_t *table, 
     for (size_t i = 0; i < count; i++) out[i] = table[symbols[i]];
 }
 
-// Sixteen scores, each changed where it stands, or left.
+// Sixteen scores, each changed where it stands.
 void none_changed_in_place(const uint8_t *right, size_t count, uint64_t *scores) {
     for (size_t i = 0; i < count; i++)
         for (size_t j = 0; j < 16; j++) scores[j] += right[i] >> (j & 7) & 1;
+}
+
+// Sixteen scores, each written back as it was or changed.
+void none_written_back(const uint8_t *right, size_t count, uint64_t *scores) {
+    for (size_t i = 0; i < count; i++)
+        for (size_t j = 0; j < 16; j++) {
+            uint64_t score = scores[j];
+            scores[j] = right[i] == j ? score * 5 : score;
+        }
 }
 
 // Cleared for each symbol.

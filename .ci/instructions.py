@@ -11,7 +11,7 @@ ELSEWHERE = "elsewhere"
 
 
 class Unknown(Exception):
-    """An instruction with memory that is not known here."""
+    """An instruction that is not known here, and may write memory or lead away."""
 
 
 def split(text):
@@ -63,6 +63,8 @@ class X86:
 
     @classmethod
     def effects(cls, name, operands):
+        if name in ("lock", "bnd", "notrack"):
+            raise Unknown(f"{name} {operands}")
         parts = split(operands)
         if cls.string.match(name) or name == "movsd" and "es:" in operands:
             return [] if "stos" in name + operands else [("copy",)]
