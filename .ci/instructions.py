@@ -2,7 +2,8 @@
 
 `effects` gives it in order: ("read", register, place), ("write", register, place, bytes), ("move", register, the registers that
 its value may come from as it is, none for a new value), ("copy",) for an instruction that copies by itself. A place is an
-address as it is written. An instruction that writes memory and is not known is refused, and not left out.
+address as it is written, with what the linker adds to it. An instruction that is not known to compute a new value is taken for
+one that may leave a value as it was.
 """
 import re
 
@@ -11,7 +12,7 @@ ELSEWHERE = "elsewhere"
 
 
 class Unknown(Exception):
-    """An instruction that is not known here, and may write memory or lead away."""
+    """An instruction of which it is not known what it writes."""
 
 
 def split(text):
@@ -36,72 +37,82 @@ def x86_registers():
 class X86:
     name = "x86-64"
     registers = x86_registers()
-    bytes = {"byte": 1, "word": 2, "dword": 4, "qword": 8, "xmmword": 16, "ymmword": 32, "zmmword": 64}
+    bytes = {"byte": 1, "word": 2, "dword": 4, "qword": 8, "xmmword": 16, "ymmword": 32, "zmmword": 64, "tbyte": 10}
     arguments = ("rdi", "rsi", "rdx", "rcx", "r8", "r9", *(f"xmm{i}" for i in range(8)))
-    results = ("rax", "rdx", "xmm0", "xmm1")
+    volatile = ("rax", "r10", "r11", *arguments, *(f"xmm{i}" for i in range(8, 32)))
     ends = re.compile(r"(jmp|ret|ud2|int3|hlt)$")
     jumps = re.compile(r"j")
-    calls = re.compile(r"(call|jmp)$")
-    no_effect = re.compile(r"(j.*|call|ret|cmp|test|bt|v?u?comis[sd]|nop|endbr64|prefetch.*|ud2|int3|hlt)$")
-    string = re.compile(r"(rep.*|movs[bwq]|stos.)$")
-    # Moves of a whole register, and what may leave a part of one or select: bits of vectors too.
-    whole = re.compile(r"v?mov(?!msk|[lh]p)")
-    part = re.compile(
-        r"(cmov|v?mov[lh]p|v?pinsr|v?insert|v?pshuf|v?shufp|v?p?unpck|v?palignr|v?p?blend|v?p?extr|v?perm|v?pandn?$|v?por$|v?(and|andn|or)p[sd]$)"
+    calls = re.compile(r"call$")
+    odd = re.compile(r"(lock|bnd|notrack|xadd|cmpxchg|v?p?maskmov|v?p?scatter|xsave|fxsave|f[a-z]*stp?$)")
+    no_effect = re.compile(r"(j|call|ret|cmp$|test|bt$|v?u?comis|nop|endbr|prefetch|ud2|int3|hlt)")
+    whole = re.compile(r"v?mov(?![lh]p)")
+    new = re.compile(
+        r"v?(add|sub|adc|sbb|inc|dec|neg|not|i?mul|i?div|lea|set|cvt|sqrt|rcp|rsqrt|round|max|min|p?movmsk|cmp|pcmp|padd|psub|pmul|pmadd|psad"
+        r"|pavg|pabs|pmax|pmin|popcnt|lzcnt|tzcnt|bs[fr]|bt[src]|cbw|cwde|cdqe|cwd|cdq|cqo)"
     )
-    updates = re.compile(r"(add|sub|adc|sbb|inc|dec|neg|not|and|or|xor|sh[lr]|sa[lr]|ro[lr]|bt[src]|set.*)$")
+    implied = {"div": ("rax", "rdx"), "idiv": ("rax", "rdx"), "mul": ("rax", "rdx"), "imul": ("rax", "rdx")}
+    implied |= {"cbw": ("rax",), "cwde": ("rax",), "cdqe": ("rax",), "cwd": ("rdx",), "cdq": ("rdx",), "cqo": ("rdx",), "leave": ("rsp", "rbp")}
 
     @classmethod
-    def place(cls, operand):
+    def place(cls, operand, linked):
         """The address and the bytes of an operand in memory."""
-        m = re.match(r"(\w+) ptr (?:\w\w:)?\[(.*)\]$", operand)
-        return (m.group(2).replace(" ", ""), cls.bytes[m.group(1)]) if m else None
+        m = re.match(r"(\w+) ptr ([^{]+)$", operand)
+        if " ptr " in operand and not (m and m.group(1) in cls.bytes):
+            raise Unknown(operand)
+        return (m.group(2).replace(" ", "") + linked, cls.bytes[m.group(1)]) if m else None
 
     @classmethod
     def registers_of(cls, place):
-        return {cls.registers[name] for name in re.findall(r"[a-z]\w*", place) if name in cls.registers}
+        return {cls.registers[name] for name in re.findall(r"[a-z]\w*", place.split("@")[0]) if name in cls.registers}
 
     @classmethod
-    def effects(cls, name, operands):
-        if name in ("lock", "bnd", "notrack"):
-            raise Unknown(f"{name} {operands}")
-        parts = split(operands)
-        if cls.string.match(name) or name == "movsd" and "es:" in operands:
-            return [] if "stos" in name + operands else [("copy",)]
-        if not parts or cls.no_effect.match(name):
-            return []
-        places, names = [cls.place(p) for p in parts], [cls.registers.get(p) for p in parts]
-        if name == "push":
-            read = [("read", "memory", places[0][0])] if places[0] else []
-            return read + [("move", "rsp", []), ("write", "memory" if read else names[0], "rsp", 8)]
+    def stack(cls, name, register, place):
         if name == "pop":
-            return [("move", "rsp", []), ("read", names[0], ELSEWHERE)]
+            return [("move", "rsp", []), ("read", register, ELSEWHERE)]
+        read = [("read", "memory", place[0])] if place else []
+        return read + [("move", "rsp", []), ("write", "memory" if place else register, "rsp", 8)]
+
+    @classmethod
+    def effects(cls, name, operands, linked):
+        if cls.odd.match(name):
+            raise Unknown(f"{name} {operands}")
+        if "es:[" in operands:
+            moved = [("move", register, []) for register in ("rsi", "rdi", "rcx")]
+            return moved if "stos" in name + operands else [("copy",), *moved]
+        parts = split(operands)
+        implied = [("move", register, []) for register in cls.implied.get(name, ()) if len(parts) < 2]
+        if not parts or cls.no_effect.match(name):
+            return implied
+        places, names = [cls.place(p, linked) for p in parts], [cls.registers.get(p) for p in parts]
+        if name in ("push", "pop"):
+            return cls.stack(name, names[0], places[0])
         if name == "xchg" and all(names):
             return [("move", register, names) for register in names]
-        whole, part = cls.whole.match(name), cls.part.match(name)
+        new = cls.new.match(name) or "xor" in name and len(set(parts[-2:])) == 1
         if places[0]:
-            if not (whole or part or cls.updates.match(name)):
-                raise Unknown(name)
-            return [("write", names[1], *places[0])] if (whole or part) and names[1] else []
-        if not (whole or part):
-            return [("move", names[0], [])] if names[0] else []
+            return implied if new else [("write", register, *places[0]) for register in names[1:] if register]
+        if new:
+            return implied + [("move", names[0], [])] * bool(names[0])
+        sources = ["memory" if place else register for place, register in zip(places, names)]
         read = [("read", "memory", place[0]) for place in places if place]
-        sources = ["memory" if place else n for place, n in zip(places, names)]
-        return read + [("move", names[0], [s for s in sources[bool(whole) :] if s])]
+        return read + [("move", names[0], [s for s in sources[bool(cls.whole.match(name)) :] if s])] * bool(names[0])
 
 
 class Arm:
     name = "aarch64"
     bytes = {"b": 1, "h": 2, "s": 4, "w": 4, "x": 8, "d": 8, "q": 16, "v": 16}
     arguments = (*(f"x{i}" for i in range(9)), *(f"v{i}" for i in range(8)))
-    results = ("x0", "x1", "v0", "v1")
+    volatile = (*(f"x{i}" for i in range(19)), *(f"v{i}" for i in range(32)))
     ends = re.compile(r"(br?|ret|brk|udf)$")
     jumps = re.compile(r"(br?|b\..*|cbn?z|tbn?z)$")
-    calls = re.compile(r"(b|blr?)$")
+    calls = re.compile(r"blr?$")
     no_effect = re.compile(r"(br?|blr?|b\..*|cbn?z|tbn?z|cmp|cmn|tst|ccm[pn]|fc?cmpe?|nop|bti|prfm|ret|brk|udf)$")
-    # As above: csinc, csneg and the like may leave their first source as it is.
-    whole = re.compile(r"(mov$|fmov$|csel|fcsel|csin|csneg|cin|cneg|ext$|zip|uzp|trn|rev|dup|[us]mov|tb[lx])")
-    part = re.compile(r"(movk|ins|bi[ft]|bsl)")
+    new = re.compile(
+        r"(add|sub|adc|sbc|ngc|neg|mvn|adrp?$|mul|mneg|madd|msub|mla|mls|[us]?mull|[us]mulh|[us]madd|[us]msub|[us]div|cset|cl[sz]|cnt|rbit|movi|mvni"
+        r"|f(add|sub|mul|div|n?madd|n?msub|sqrt|abs|neg|max|min|cvt|rint|cm|ac)|[us]cvtf|cm(eq|ge|gt|hi|hs|le|lt|tst)|[us]?addl|[us]?addw|[us]?addv"
+        r"|[us]max|[us]min|[us]aba|[us]abd|abs|[us]sub|pmul)"
+    )
+    part = re.compile(r"(movk|bf|ins|bi[ft]|bsl|tbx|s[lr]i$)")
 
     @staticmethod
     def register(text):
@@ -109,18 +120,27 @@ class Arm:
         return ("x" if m.group(1) in "wx" else "v") + m.group(2) if m else "sp" if text == "sp" else None
 
     @classmethod
-    def registers_of(cls, place):
-        return {cls.register(name) for name in re.findall(r"[a-z]+\d*", place)} - {None}
+    def listed(cls, part):
+        """The registers of an operand, each as it is written: of a list, of a range of vectors, or the one."""
+        if m := re.match(r"\{\s*v(\d+)[.\w]*\s*-\s*v(\d+)", part):
+            return [f"v{i}" for i in range(int(m.group(1)), int(m.group(2)) + 1)]
+        return [text.strip() for text in part.strip("{} ").split(",")]
 
     @classmethod
-    def memory(cls, name, parts, at):
+    def registers_of(cls, place):
+        return {cls.register(name) for name in re.findall(r"[a-z]+\d*", place.split("@")[0])} - {None}
+
+    @classmethod
+    def memory(cls, name, parts, at, linked):
         """One register or more, each with its part of the place; then the address may move on."""
+        if not re.match(r"(ld|st)(?!.*x[pr])", name):
+            raise Unknown(name)
         base, offset = re.match(r"\[(.*?)(?:, #(-?\w+))?\]", parts[at]).groups()
         narrow, place, effects = re.search(r"r[su]?([bh])$", name), int(offset or "0", 0), []
-        for text in (r.strip() for part in parts[:at] for r in part.strip("{}").split(",")):
+        for text in (text for part in parts[:at] for text in cls.listed(part)):
             size, register = cls.bytes[narrow.group(1) if narrow else text[0]], cls.register(text)
             if register:
-                here = f"{base}+{place}"
+                here = f"{base}+{place}{linked}"
                 effects.append(("read", register, here) if name.startswith("ld") else ("write", register, here, size))
             place += size
         if parts[at].endswith("!") or parts[at + 1 :]:
@@ -128,7 +148,7 @@ class Arm:
         return effects
 
     @classmethod
-    def effects(cls, name, operands):
+    def effects(cls, name, operands, linked):
         parts = split(operands)
         if name.startswith("cpy"):
             return [("copy",)]
@@ -136,13 +156,10 @@ class Arm:
             return []
         at = next((i for i, part in enumerate(parts) if part.startswith("[")), None)
         if at is not None:
-            if not re.match(r"ld|st", name):
-                raise Unknown(name)
-            return cls.memory(name, parts, at)
-        names = [cls.register(part) for part in parts]
+            return cls.memory(name, parts, at, linked)
+        names = [[r for text in cls.listed(part) if (r := cls.register(text))] for part in parts]
         if not names[0]:
             return []
-        lane = cls.part.match(name) or cls.whole.match(name) and "[" in parts[0]
-        if lane or cls.whole.match(name):
-            return [("move", names[0], [n for n in names[not lane :] if n])]
-        return [("move", names[0], [])]
+        kept = names[0] if cls.part.match(name) or "[" in parts[0] else []
+        sources = [] if cls.new.match(name) else kept + [r for more in names[1:] for r in more]
+        return [("move", register, sources) for register in names[0]]
