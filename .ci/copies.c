@@ -56,6 +56,43 @@ void found_loop_inside_a_loop(const uint8_t *symbols, size_t count, const uint8_
     }
 }
 
+struct board first, second;
+
+// From one place that only the linker knows to another.
+void found_between_globals(size_t count) {
+    for (size_t i = 0; i < count; i++) {
+        second = first;
+        __asm__ volatile("" : : : "memory");
+    }
+}
+
+__attribute__((noinline)) static uint64_t *next_place(uint64_t **at) {
+    return (*at)++;
+}
+
+// Each number read and written where a call says.
+void found_at_returned_places(size_t count, uint64_t *from) {
+    for (size_t i = 0; i < count; i++)
+        for (size_t j = 0; j < 16; j++) {
+            uint64_t number = *next_place(&from);
+            *next_place(&from) = number;
+        }
+}
+
+// Kept or replaced by a mask.
+void found_by_a_mask(size_t count, const uint64_t *masks, uint64_t *to, const uint64_t *from) {
+    for (size_t i = 0; i < count; i++)
+        for (size_t j = 0; j < 16; j++) to[j] = (to[j] & ~masks[i]) | (from[j] & masks[i]);
+}
+
+// Every second byte.
+void found_every_second(size_t count, uint8_t *to, const uint8_t *from) {
+    for (size_t i = 0; i < count; i++) {
+        for (size_t j = 0; j < 64; j++) to[j] = from[2 * j];
+        __asm__ volatile("" : : : "memory");
+    }
+}
+
 // A routine of which nothing is known.
 void found_routine(size_t count, void *table) {
     for (size_t i = 0; i < count; i++) lent(table);
