@@ -18,7 +18,11 @@ pub fn link(package: &Path) {
     }
     let object = PathBuf::from(variable("OUT_DIR")).join("lookup.o");
     let mut compile = Command::new(compiler);
-    compile.args(["-O3", "-c", "-o"]).arg(&object).arg(&source);
+    // Not -O3: there gcc 12 gathers sixteen numbers by shifts to write them at once, and is slower.
+    compile
+        .args(["-O2", "-funroll-loops", "-c", "-o"])
+        .arg(&object)
+        .arg(&source);
     run(&mut compile, "the loop is plain C; `CC` names its compiler");
     println!("cargo::rustc-link-arg-bin=bench={}", object.display());
     println!("cargo::rustc-cfg=has_plain_loop");
