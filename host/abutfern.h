@@ -14,6 +14,7 @@
  *   7 the width is 0, as if it were never filled in, or above 8
  *   8 of a record: a wrong length, a wrong kind, or the end of the input
  *   9 of a record: it holds what no answer is
+ *   10 of a running test: see repetition.h
  * After a refusal every float is -1.0, every other field 0 but for the place of number 3, and all
  * lent memory is what it was. Refusals are tried in the order 1, 7, 6, 2, 3, and 4 before 5; the
  * board figure has its own.
@@ -147,9 +148,9 @@ abutfern_Answer abutfern_multi_mmc_literal(
 
 /* The smallest of the four estimates, in bits per symbol, and which; none unless all four ran.
  * Answers 7 for its own width first of all; then the number of the first refused one (5 for a
- * number above 7), 5 (an entropy out of range), 6 (one or more of the four did not run: those with
- * number 6). On each of these `which` is 0 and `value` -1.0, and the board has no figure: one that
- * is kept from an earlier call is another board's. */
+ * number above 7 other than 10), 5 (an entropy out of range), 6 (one or more of the four did not
+ * run: those with number 6). On each of these `which` is 0 and `value` -1.0, and the board has no
+ * figure: one that is kept from an earlier call is another board's. */
 abutfern_Figure abutfern_board_figure(
     abutfern_Answer mcw_bits, abutfern_Answer mcw_literal,
     abutfern_Answer mmc_bits, abutfern_Answer mmc_literal, uint8_t bits_per_symbol);

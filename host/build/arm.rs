@@ -1,4 +1,4 @@
-//! The library on an Arm machine. The toolchain compiles for x86-64 only, so the module that it
+//! A library on an Arm machine. The toolchain compiles for x86-64 only, so the module that it
 //! hands to its clang is kept and compiled once more, by the same clang, for this machine.
 //!
 //! The toolchain is run from a folder of links to it, in which clang is a script that keeps the
@@ -17,7 +17,7 @@ pub fn make(mut rt: Command, archive: &Path) {
     let kit = kit();
     let tools = kit.join("on/aarch64/toolchain/bin");
     let mirror = folder.join("kit");
-    let module = folder.join("module.bc");
+    let module = archive.with_extension("bc");
     mirrored(&kit, &mirror, &module);
     let hint = "the library is proved and built by `rt`, of the Rattle toolchain";
     run(rt.env("RATTLE_HOME", &mirror), hint);

@@ -1,5 +1,5 @@
-//! Builds what the package stands on: the proved library as an archive, the Rust that it was ported
-//! from, where its sources are at hand, and a loop in C, where there is a compiler for it.
+//! Builds what the package stands on: the proved libraries as archives, the Rust that was ported,
+//! where its sources are at hand, and a loop in C, where there is a compiler for it.
 
 mod archive;
 mod arm;

@@ -1,6 +1,6 @@
-//! The C interface of the proved library as it stands in the archive. A slice is a pointer and a
-//! length. A function that the archive does not have yet ends the program if it is called;
-//! `exported` says which are there.
+//! The C interface of the proved libraries as it stands in their archives. A slice is a pointer and
+//! a length. A function that no archive has yet ends the program if it is called; `exported` says
+//! which are there.
 
 /// What the shared estimate found: three counts and four floats.
 #[repr(C)]
@@ -130,6 +130,38 @@ pub struct Row {
     pub byte: u64,
 }
 
+/// The state of a running repetition count test; all 0 where it was never started.
+#[repr(C)]
+#[derive(Clone, Copy, Debug, PartialEq, Eq)]
+pub struct RepetitionTest {
+    /// How many equal samples in a row the alarm stands at.
+    pub cutoff: u16,
+    /// The last sample, 0 before the first.
+    pub last_sample: u16,
+    /// How many equal samples end with the last, the cutoff at most; 0 before the first.
+    pub count: u16,
+}
+
+/// The cutoff for an entropy.
+#[repr(C)]
+#[derive(Clone, Copy, Debug, PartialEq, Eq)]
+pub struct Cutoff {
+    /// The answer number: 0, 5.
+    pub number: u64,
+    /// The cutoff, 4 to 1,281; 0 unless the number is 0.
+    pub cutoff: u64,
+}
+
+/// What a sample is answered. It has passed only where both are 0.
+#[repr(C)]
+#[derive(Clone, Copy, Debug, PartialEq, Eq)]
+pub struct Alarm {
+    /// The answer number: 0, 10.
+    pub number: u64,
+    /// 1 where the alarm stands; 0 where it does not, and where the number is not 0.
+    pub alarm: u64,
+}
+
 macro_rules! functions {
     ($($name:literal fn $symbol:ident($($argument:ident: $kind:ty),*) -> $result:ty;)*) => {
         $(
@@ -139,11 +171,11 @@ macro_rules! functions {
             }
             #[cfg(not(exported = $name))]
             pub unsafe fn $symbol($(_: $kind),*) -> $result {
-                panic!("the archive has no abutfern_{}", $name)
+                panic!("no archive has abutfern_{}", $name)
             }
         )*
 
-        /// Whether the archive has a function, by its name without `abutfern_`.
+        /// Whether an archive has a function, by its name without `abutfern_`.
         pub fn exported(name: &str) -> bool {
             match name {
                 $($name => cfg!(exported = $name),)*
@@ -188,4 +220,9 @@ functions! {
     "read_record" fn abutfern_read_record(bytes: *const u8, length: usize) -> Reading;
     "read_records" fn abutfern_read_records(bytes: *const u8, length: usize) -> Row;
     "record_at" fn abutfern_record_at(bytes: *const u8, length: usize, place: u64) -> Reading;
+    "repetition_cutoff" fn abutfern_repetition_cutoff(entropy: f64) -> Cutoff;
+    "repetition_start" fn abutfern_repetition_start(
+        test: *mut RepetitionTest, entropy: f64) -> u64;
+    "repetition_sample" fn abutfern_repetition_sample(
+        test: *mut RepetitionTest, sample: u8) -> Alarm;
 }

@@ -1,7 +1,7 @@
-//! Abutfern for Rust: safe bindings of the proved library. Every capture, width, count and lent
-//! slice gets an answer; what cannot be done is refused by number (see [`numbers`]), with all lent
-//! memory unchanged. A width that is none of [`numbers::WIDTHS`] is refused with 7 by the functions
-//! that take one; the literal tracks and the alphabets have no width and never answer 7.
+//! Abutfern for Rust: safe bindings of the proved libraries. Every capture, width, count, lent
+//! slice and lent state gets an answer; what cannot be done is refused by number (see [`numbers`]),
+//! with all lent memory unchanged. A width that is none of [`numbers::WIDTHS`] is refused with 7 by the
+//! functions that take one; the literal tracks and the alphabets have no width and never answer 7.
 
 pub mod ffi;
 pub mod numbers;
@@ -20,7 +20,8 @@ pub extern crate reference;
 pub struct Linking;
 
 pub use ffi::{
-    Alphabet, Answer, BitRead, Estimate, Figure, Reading, Row, Solved, Value, Written, exported,
+    Alarm, Alphabet, Answer, BitRead, Cutoff, Estimate, Figure, Reading, RepetitionTest, Row,
+    Solved, Value, Written, exported,
 };
 
 /// How many bytes a record of kind 1 takes.
@@ -48,8 +49,24 @@ impl Answer {
     }
 }
 
-// Each call below passes the pointer and length of one slice that outlives it, so all are sound:
-// the library reads and writes nothing else, and its functions take every value.
+impl RepetitionTest {
+    /// The state before the first start.
+    pub const NEVER_STARTED: Self = Self {
+        cutoff: 0,
+        last_sample: 0,
+        count: 0,
+    };
+}
+
+impl Default for RepetitionTest {
+    fn default() -> Self {
+        Self::NEVER_STARTED
+    }
+}
+
+// Each call below passes the pointer and length of slices that outlive it, or the pointer of a
+// state that does, so all are sound: the libraries read and write nothing else, and their functions
+// take every value.
 
 /// Bit `i` of a capture: answers 0, 1, 7, 2, 3.
 pub fn bit(symbols: &[u8], width: u8, i: u64) -> BitRead {
@@ -155,8 +172,8 @@ pub fn multi_mmc_literal(symbols: &[u8], out: &mut [u8], space: &mut [u32]) -> A
 /// unless all four ran.
 /// The answers stand in the order MultiMCW bits, MultiMCW literal, MultiMMC bits, MultiMMC literal.
 /// Its own answers: 0; 7 for the width, before all others; the number of the first refused estimate
-/// (5 for a number above 7); 5 for an entropy out of range; 6 where one or more did not run, which
-/// are those with number 6.
+/// (5 for one above 7 other than 10); 5 for an entropy out of range; 6 where one or more did not
+/// run, which are those with number 6.
 pub fn board_figure(answers: &[Answer; 4], bits_per_symbol: u8) -> Figure {
     let [mcw_bits, mcw_literal, mmc_bits, mmc_literal] = *answers;
     unsafe {
@@ -189,4 +206,20 @@ pub fn read_records(bytes: &[u8]) -> Row {
 /// the first bad record or past it has the first bad one's number; a place past the end has 8.
 pub fn record_at(bytes: &[u8], place: u64) -> Reading {
     unsafe { ffi::abutfern_record_at(bytes.as_ptr(), bytes.len(), place) }
+}
+
+/// The cutoff of the repetition count test for an entropy in bits per sample, rounded down to 1/64:
+/// answers 0, 5.
+pub fn repetition_cutoff(entropy: f64) -> Cutoff {
+    unsafe { ffi::abutfern_repetition_cutoff(entropy) }
+}
+
+/// Starts a test for an entropy in bits per sample, whatever its state: answers 0, 5.
+pub fn repetition_start(test: &mut RepetitionTest, entropy: f64) -> u64 {
+    unsafe { ffi::abutfern_repetition_start(test, entropy) }
+}
+
+/// Takes the next sample of a test that was started: answers 0, 10.
+pub fn repetition_sample(test: &mut RepetitionTest, sample: u8) -> Alarm {
+    unsafe { ffi::abutfern_repetition_sample(test, sample) }
 }

@@ -1,4 +1,4 @@
-//! The limits of document 01 and the answer numbers in words.
+//! The limits of documents 01 and 02 and the answer numbers in words.
 
 use std::ops::RangeInclusive;
 
@@ -22,6 +22,9 @@ pub const LEVELS: usize = 16;
 pub const PAIR_CAP: usize = 100_000;
 /// The most rounds of the bisection.
 pub const ROUND_LIMIT: u64 = 1_076;
+/// The entropies that a repetition count test starts with, in bits per sample; any other is refused
+/// with number 5.
+pub const ENTROPIES: RangeInclusive<f64> = 1.0 / 64.0..=8.0;
 
 /// An answer number in words.
 pub fn meaning(number: u64) -> &'static str {
@@ -36,6 +39,7 @@ pub fn meaning(number: u64) -> &'static str {
         7 => "the width is 0, as if never filled in, or above 8",
         8 => "a record with a wrong length or kind, or the end of the input",
         9 => "a record that holds what no answer is",
+        10 => "a sample before a start, or a state that no start and samples could have left",
         _ => "a number that is not given",
     }
 }

@@ -1,7 +1,7 @@
 -- The answer numbers of documents 01 and 02, each given exactly when its line says. Definitions only.
 use Prim.Native.Nat.{ℕ}
-use mathlib.Core.Bool.{Bool}
-use lib.Dec.{leb}
+use mathlib.Core.Bool.{Bool, _||_}
+use lib.Dec.{leb, eqb}
 
 -- done
 abbrev pub done : ℕ
@@ -43,6 +43,10 @@ badFrame = 8
 abbrev pub badAnswer : ℕ
 badAnswer = 9
 
--- "given by then": the numbers that an estimate can have. 8 and 9 are said of a record and stand in none.
+-- of a running test: "a sample before a start, or .. a state that no start and samples could have left"
+abbrev pub badState : ℕ
+badState = 10
+
+-- "given by then": the numbers that a result can have. 8 and 9 are said of a record and stand in none.
 unfoldable pub given : ℕ → Bool
-given n = leb n badWidth
+given n = leb n badWidth || eqb n badState

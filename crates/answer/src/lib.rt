@@ -24,6 +24,8 @@ pub const BAD_FRAME: u64 = 8;
 
 pub const BAD_ANSWER: u64 = 9;
 
+pub const BAD_STATE: u64 = 10;
+
 // The shared estimate: C, N, the longest run, p_global, p_global', p_local and the min-entropy in bits per sample.
 #[repr(C)]
 pub struct Estimate {
@@ -61,11 +63,14 @@ pub struct Solved {
     pub value: f64,
 }
 
-// Whether a number is one that an estimate can have.
+// Whether a number is one that a result can have.
 pub fn is_given(number: u64) -> bool
     ensures { λ r. ⌜ r ≡ given number ⌝ }
 {
-    number <= BAD_WIDTH
+    if number <= BAD_WIDTH {
+        return true;
+    }
+    number == BAD_STATE
 }
 
 // What stands where there is no float: -1.0.

@@ -23,6 +23,7 @@ fn help_and_version_end_with_a_line_feed() {
         &[],
         &["rate", "--help"],
         &["show", "-h"],
+        &["health", "a", "-h"],
     ] {
         let help = room.run(words);
         assert_eq!((help.status, &*help.stderr), (0, ""));
@@ -40,11 +41,14 @@ fn help_and_version_end_with_a_line_feed() {
 }
 
 /// Wrong calls, their words apart by single spaces, and what is said of each.
-const WRONG: [(&str, &str); 27] = [
-    ("frob", "frob is no command; the commands are rate and show"),
+const WRONG: [(&str, &str); 45] = [
+    (
+        "frob",
+        "frob is no command; the commands are rate, show and health",
+    ),
     (
         "a.bin --width 8",
-        "a.bin is no command; the commands are rate and show",
+        "a.bin is no command; the commands are rate, show and health",
     ),
     ("rate", "no capture file is named"),
     (
@@ -134,11 +138,75 @@ const WRONG: [(&str, &str); 27] = [
         "- is standard input, which can be read once: name it once",
     ),
     ("show a --width=8", "--width is not known"),
+    ("health --entropy=1", "no capture file is named"),
+    (
+        "health  --entropy=1",
+        "a file's name is empty; is a variable unset?",
+    ),
+    (
+        "health - a - --entropy=1",
+        "- is standard input, which can be read once: name it once",
+    ),
+    (
+        "health a",
+        "the entropy of a sample is missing: --entropy H, in bits, 1/64 to 8",
+    ),
+    (
+        "health a --entropy",
+        "--entropy takes a decimal number of bits, 1/64 to 8, and none is given",
+    ),
+    (
+        "health a --entropy=",
+        "--entropy takes a decimal number of bits, 1/64 to 8, and its value is empty; \
+         is a variable unset?",
+    ),
+    (
+        "health a --entropy 149/64",
+        "--entropy takes a decimal number of bits, 1/64 to 8, not '149/64'",
+    ),
+    (
+        "health a --entropy 2\n2",
+        "--entropy takes a decimal number of bits, 1/64 to 8, not '2\\n2'",
+    ),
+    (
+        "health a --entropy 0",
+        "0 is no entropy to test for (answer 5), and 0 is the figure of a board that gives \
+         nothing: say with --entropy how many bits of min-entropy a sample has, 1/64 to 8",
+    ),
+    (
+        "health a --entropy -1.0",
+        "-1.0 is no entropy to test for (answer 5), and -1 stands where there is no board \
+         figure: say with --entropy how many bits of min-entropy a sample has, 1/64 to 8",
+    ),
+    (
+        "health a --entropy=0.0156249",
+        "0.0156249 is no entropy to test for (answer 5): \
+         say with --entropy how many bits of min-entropy a sample has, 1/64 to 8",
+    ),
+    (
+        "health a --entropy=8.001",
+        "8.001 is no entropy to test for (answer 5): \
+         say with --entropy how many bits of min-entropy a sample has, 1/64 to 8",
+    ),
+    (
+        "health a --entropy=nan",
+        "nan is no entropy to test for (answer 5): \
+         say with --entropy how many bits of min-entropy a sample has, 1/64 to 8",
+    ),
+    ("health a --entropy=1 --json=1", "--json takes no value"),
+    ("health a --entropy=1 --width=8", "--width is not known"),
+    ("health a --entropy=1 --jobs=2", "--jobs is not known"),
+    (
+        "health a -e 1",
+        "-e is not known; a file of that name is ./-e",
+    ),
+    ("rate a --width=8 --entropy=1", "--entropy is not known"),
 ];
 
 const USAGE: &str = "\
 usage: abutfern rate FILE.. --width W [--json] [--jobs N] [--records OUT]
        abutfern show FILE.. [--json]
+       abutfern health FILE.. --entropy H [--json]
 ";
 
 #[test]

@@ -5,6 +5,7 @@ mod calls;
 mod captures;
 mod example;
 mod files;
+mod health;
 mod pages;
 mod proofs;
 mod records;

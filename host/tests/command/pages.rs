@@ -5,18 +5,26 @@ use std::process::Command;
 
 #[test]
 fn the_readme_shows_what_the_command_prints() {
-    let words = ["rate", "sample/board-17.bin", "--width", "4"];
-    let mut command = Command::new(env!("CARGO_BIN_EXE_abutfern"));
-    let printed = outcome(command.args(words).current_dir(repository())).stdout;
     let readme = page("README.md");
-    assert!(readme.contains(&format!("./abutfern {}\n", words.join(" "))));
     let short = stored("4095-bytes.txt");
     let figure = short.find("  board figure").expect("it speaks of one");
-    let lines = printed.lines().chain(short[figure..].lines());
-    for line in lines.filter(|line| !line.is_empty()) {
+    let mut printed = short[figure..].to_string();
+    for call in CALLS {
+        assert!(readme.contains(&format!("./abutfern {call}\n")), "{call}");
+        let mut command = Command::new(env!("CARGO_BIN_EXE_abutfern"));
+        let command = command.args(call.split(' ')).current_dir(repository());
+        printed += &outcome(command).stdout;
+    }
+    for line in printed.lines().filter(|line| !line.is_empty()) {
         assert!(readme.contains(&format!("    {line}\n")), "{line}");
     }
 }
+
+/// The calls that the page shows the output of.
+const CALLS: [&str; 2] = [
+    "rate sample/board-17.bin --width 4",
+    "health sample/board-17.bin --entropy 2.336441",
+];
 
 #[test]
 fn the_commands_of_the_readme_run_in_its_order() {
@@ -30,7 +38,7 @@ fn the_commands_of_the_readme_run_in_its_order() {
     let ends: Vec<i32> = calls
         .map(|call| room.run(&call.split(' ').collect::<Vec<_>>()).status)
         .collect();
-    assert_eq!(ends, [0; 3]);
+    assert_eq!(ends, [0; 4]);
 }
 
 #[test]

@@ -112,7 +112,11 @@ fn double(value: f64) -> [u8; 8] {
 #[test]
 fn an_answer_that_ran_with_a_wrong_field() {
     for (first, field, reason) in [
-        (6, &[8][..], "its answer number is 8, and 0 to 7 are given"),
+        (
+            6,
+            &[8][..],
+            "its answer number is 8, and 0 to 7 and 10 are given",
+        ),
         (9, &[5], "its place is 5, and an answer of 0 has 0 there"),
         (16, &[1], "its C is 16,876,558, above its N, 199,937"),
         (
@@ -167,7 +171,18 @@ fn a_refusal_with_a_wrong_field() {
             &double(0.5),
             "its p_local is 0.5, and an answer of 7 has -1.0 there",
         ),
-        (8, 6, &[8], "its answer number is 8, and 0 to 7 are given"),
+        (
+            8,
+            6,
+            &[8],
+            "its answer number is 8, and 0 to 7 and 10 are given",
+        ),
+        (
+            8,
+            6,
+            &[11],
+            "its answer number is 11, and 0 to 7 and 10 are given",
+        ),
         (
             2,
             25,
@@ -194,6 +209,23 @@ fn a_refusal_with_a_wrong_field() {
             reason,
         );
     }
+}
+
+#[test]
+fn a_number_that_no_estimator_says() {
+    let mut record = rows::row()[61 * 7..61 * 8].to_vec();
+    record[6] = 10;
+    let [table, json] = shown("ten", &record);
+    let words = "a sample before a start, or a state that no start and samples could have left";
+    assert_eq!((table.status, &*table.stderr), (0, ""));
+    assert!(
+        table
+            .stdout
+            .ends_with(&format!("  {words} (answer 10)\n\n"))
+    );
+    let answer = format!(r#"{{"byte":0,"number":10,"answer":"{words}"}}"#);
+    let object = format!(r#"{{"file":"a.rec","records":[{answer}],"bad":null}}"#);
+    assert_eq!(json, good(format!("{object}\n")));
 }
 
 /// The value of a key that stands once in a text of JSON.

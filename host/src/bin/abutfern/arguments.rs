@@ -1,7 +1,7 @@
 //! The command line.
 
 use crate::names;
-use abutfern::numbers::WIDTHS;
+use abutfern::numbers::{ENTROPIES, WIDTHS};
 use std::ffi::{OsStr, OsString};
 use std::ops::RangeInclusive;
 use std::os::unix::ffi::OsStrExt;
@@ -14,6 +14,7 @@ pub enum Call {
     Version,
     Rate(Rate),
     Show(Show),
+    Health(Health),
 }
 
 /// Files to rate, and how.
@@ -34,6 +35,15 @@ pub struct Show {
     pub json: bool,
 }
 
+/// Captures to run the repetition count test over, and how.
+#[derive(Debug, PartialEq)]
+pub struct Health {
+    pub files: Vec<PathBuf>,
+    /// Bits of min-entropy per sample.
+    pub entropy: f64,
+    pub json: bool,
+}
+
 /// Reads the words of the command line; the error says in one line what is wrong with them.
 pub fn read(words: impl Iterator<Item = OsString>) -> Result<Call, String> {
     let words: Vec<OsString> = words.collect();
@@ -48,10 +58,11 @@ pub fn read(words: impl Iterator<Item = OsString>) -> Result<Call, String> {
         (None, None) => Ok(Call::Help),
         (None, Some((first, rest))) if first == "rate" => rate(rest).map(Call::Rate),
         (None, Some((first, rest))) if first == "show" => show(rest).map(Call::Show),
+        (None, Some((first, rest))) if first == "health" => health(rest).map(Call::Health),
         (None, Some((first, _))) => {
             let first = names::printable(&first.to_string_lossy());
             Err(format!(
-                "{first} is no command; the commands are rate and show"
+                "{first} is no command; the commands are rate, show and health"
             ))
         }
     }
@@ -114,10 +125,39 @@ fn show(words: &[OsString]) -> Result<Show, String> {
     Ok(Show { files, json })
 }
 
+fn health(words: &[OsString]) -> Result<Health, String> {
+    let mut files: Vec<PathBuf> = Vec::new();
+    let (mut entropy, mut json) = (None, false);
+    let mut words = words.iter();
+    while let Some(word) = words.next() {
+        let Some((option, own)) = option(word) else {
+            files.push(word.into());
+            continue;
+        };
+        match option.as_str() {
+            "--entropy" => entropy = Some(sample_bits(own.or_else(|| words.next().cloned()))?),
+            "--json" if own.is_none() => json = true,
+            "--" if own.is_none() => files.extend(words.by_ref().map(PathBuf::from)),
+            "--json" => return Err(NO_VALUE.to_string()),
+            _ => return Err(unknown(&option)),
+        }
+    }
+    named(&files, "no capture file is named")?;
+    let entropy = entropy.ok_or(format!(
+        "the entropy of a sample is missing: --entropy H, in bits, {BITS}"
+    ))?;
+    Ok(Health {
+        files,
+        entropy,
+        json,
+    })
+}
+
 const NO_VALUE: &str = "--json takes no value";
 const TWO_ROWS: &str = "--records is given twice: all records go to one file";
 const EMPTY: &str = "its value is empty; is a variable unset?";
 const BLANK: &str = ", and a width field that was left empty arrives as 0";
+const BITS: &str = "1/64 to 8";
 
 /// An option and the value that follows it after `=`; none where the word is a file's name.
 fn option(word: &OsStr) -> Option<(String, Option<OsString>)> {
@@ -179,6 +219,31 @@ fn no_width(given: &str) -> Option<String> {
         "{given} is no width (answer 7){origin}: say with --width how many bits a symbol has, {}",
         span(&WIDTHS)
     ))
+}
+
+/// The bits of min-entropy per sample, which --entropy brings.
+fn sample_bits(value: Option<OsString>) -> Result<f64, String> {
+    let wanted = format!("--entropy takes a decimal number of bits, {BITS}");
+    let value = text(&value.ok_or(format!("{wanted}, and none is given"))?);
+    match value.parse() {
+        Ok(entropy) if ENTROPIES.contains(&entropy) => Ok(entropy),
+        Ok(entropy) => Err(no_entropy(&value, entropy)),
+        Err(_) if value.is_empty() => Err(format!("{wanted}, and {EMPTY}")),
+        Err(_) => Err(format!("{wanted}, not '{}'", names::printable(&value))),
+    }
+}
+
+/// What is said of a number that is no entropy to test for, which the library refuses with 5.
+fn no_entropy(given: &str, entropy: f64) -> String {
+    let origin = match entropy {
+        0.0 => ", and 0 is the figure of a board that gives nothing",
+        -1.0 => ", and -1 stands where there is no board figure",
+        _ => "",
+    };
+    format!(
+        "{given} is no entropy to test for (answer 5){origin}: say with --entropy how many bits of \
+         min-entropy a sample has, {BITS}"
+    )
 }
 
 /// The name of a new file that an option brings. What looks like an option is none.
@@ -260,6 +325,22 @@ mod tests {
     }
 
     #[test]
+    fn a_call_for_the_test_is_read() {
+        let tested = |files: &[&str], entropy, json| {
+            let files = files.iter().map(PathBuf::from).collect();
+            Ok(Call::Health(Health {
+                files,
+                entropy,
+                json,
+            }))
+        };
+        let call = read_line("health a - --entropy 2.5 --json");
+        assert_eq!(call, tested(&["a", "-"], 2.5, true));
+        let call = read_line("health --entropy=1e0 -- --json");
+        assert_eq!(call, tested(&["--json"], 1.0, false));
+    }
+
+    #[test]
     fn a_name_that_is_no_utf_8_stays_as_it_is() {
         let name = OsStr::from_bytes(b"--records=\xff.rec").to_os_string();
         let words = ["rate", "a", "--width=8"].map(OsString::from);
@@ -319,6 +400,53 @@ mod tests {
         }
     }
 
+    /// What becomes of a call with `--entropy=` and this value.
+    fn of_entropy(value: &str) -> Result<Call, String> {
+        let words = ["health", "a.bin", &format!("--entropy={value}")].map(OsString::from);
+        read(words.into_iter())
+    }
+
+    #[test]
+    fn the_entropies_that_are_taken_are_those_of_the_library() {
+        let near = [1.0 / 64.0, 1.0, 8.0].map(|near: f64| [near.next_down(), near, near.next_up()]);
+        let far = [0.0, -0.0, -1.0, 1e-300, 1e300, f64::INFINITY, f64::NAN];
+        for entropy in near.into_iter().flatten().chain(far) {
+            let call = of_entropy(&format!("{entropy:?}"));
+            let number = abutfern::repetition_cutoff(entropy).number;
+            assert_eq!(number, if call.is_ok() { 0 } else { 5 }, "{entropy:?}");
+        }
+    }
+
+    #[test]
+    fn a_number_that_is_no_entropy_is_told_as_such() {
+        for (given, origin) in [
+            ("0", ", and 0 is the figure of a board that gives nothing"),
+            (
+                "-0.0",
+                ", and 0 is the figure of a board that gives nothing",
+            ),
+            ("-1", ", and -1 stands where there is no board figure"),
+            ("0.015", ""),
+            ("8.0000001", ""),
+            ("NaN", ""),
+            ("-inf", ""),
+        ] {
+            let start = format!("{given} is no entropy to test for (answer 5){origin}: say with ");
+            let said = of_entropy(given).expect_err(given);
+            assert!(said.starts_with(&start), "{said}");
+        }
+    }
+
+    #[test]
+    fn an_entropy_that_is_no_number_is_told_otherwise() {
+        assert!(of_entropy("").is_err_and(|said| said.ends_with(EMPTY)));
+        for value in ["x", "1/64", "1,5", " 1", "2\n", "0x1", "1 bit"] {
+            let said = of_entropy(value).expect_err(value);
+            let start = "--entropy takes a decimal number of bits, 1/64 to 8, not '";
+            assert!(said.starts_with(start), "{said}");
+        }
+    }
+
     #[test]
     fn a_wrong_call_is_refused() {
         for line in [
@@ -343,6 +471,16 @@ mod tests {
             "show a.rec --width 8",
             "show a.rec --json=yes",
             "show a.rec --records b",
+            "health",
+            "health a.bin",
+            "health --entropy 1",
+            "health a.bin --entropy",
+            "health a.bin --entropy x",
+            "health - - --entropy 1",
+            "health a.bin --entropy 1 --json=yes",
+            "health a.bin --entropy 1 --width 8",
+            "health a.bin --entropy 1 --records b",
+            "rate a.bin --entropy 1",
         ] {
             assert!(read_line(line).is_err(), "{line}");
         }

@@ -3,7 +3,8 @@
 /// How it is called, a line for each command.
 pub const USAGE: &str = "\
 usage: abutfern rate FILE.. --width W [--json] [--jobs N] [--records OUT]
-       abutfern show FILE.. [--json]";
+       abutfern show FILE.. [--json]
+       abutfern health FILE.. --entropy H [--json]";
 
 /// What `abutfern --version` prints.
 pub const VERSION: &str = concat!("abutfern ", env!("CARGO_PKG_VERSION"), "\n");
@@ -14,6 +15,7 @@ abutfern: how much min-entropy a noise source gives, from captures of it
 
   abutfern rate FILE.. --width W [--json] [--jobs N] [--records OUT]
   abutfern show FILE.. [--json]
+  abutfern health FILE.. --entropy H [--json]
 
 A capture is a file with one symbol to a byte, as it was recorded, at most 16,777,216 of them; `-`
 is standard input. Four estimates are made, of NIST SP 800-90B: MultiMCW (6.3.7) and MultiMMC
@@ -42,11 +44,23 @@ there whole or not at all, and no file that is there already is replaced.
 the byte that it begins at and its answer, with a dash for what the answer does not have. Where one
 is bad, those before it are printed, and its place, its byte and what is wrong with it are said.
 
-The exit status is 0 if every file has a board figure (rate) or only good records (show), 1 if one
-has not or something cannot be read or written, 2 for a wrong call.
+`health` runs the repetition count test of SP 800-90B 4.4.1 over captures of any length, each from
+its first sample, a byte. The alarm stands after a sample where as many equal ones end with it as
+the cutoff says. The cutoff is for a false alarm probability of 2^-20, so that in millions of
+samples of a good source it may stand a few times. Printed are the first alarm's place, from 0, and
+value, after how many samples the alarm stands, and in how many runs. A capture with fewer samples
+than the cutoff can have no alarm, and counts as not tested.
+
+  --entropy H    bits of min-entropy per sample, a decimal number from 1/64 to 8, such as the board
+                 figure; it is rounded down to 1/64
+
+The exit status is 0 if every file has a board figure (rate), only good records (show), or was
+tested and has no alarm (health), 1 if one has not or something cannot be read or written, 2 for a
+wrong call.
 
   abutfern rate board-17.bin --width 8
   abutfern rate lot-3/*.bin --width=4 --records lot-3.rec
   abutfern show lot-3.rec
+  abutfern health board-17.bin --entropy 2.336441
   abutfern rate lot-3/*.bin --width=4 --json > lot-3.json
 ";

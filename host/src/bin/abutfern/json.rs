@@ -1,7 +1,8 @@
-//! A rating, or a row of records, as one JSON object. Doubles are printed so that they read back with
-//! the same bits.
+//! A rating, a row of records or a test as one JSON object. Doubles are printed so that they read
+//! back with the same bits.
 
 use crate::rate::{ESTIMATORS, Estimator, Rating};
+use crate::repetition::Heard;
 use crate::row::{Bad, Record, Row};
 use abutfern::Answer;
 use abutfern::numbers::meaning;
@@ -139,6 +140,22 @@ fn bad(bad: &Bad) -> String {
         bad.number,
         quoted(&bad.reason)
     )
+}
+
+/// The object of a capture that was tested.
+pub fn test(file: &str, entropy: f64, heard: &Heard) -> String {
+    let first = heard.first.as_ref().map_or("null".to_string(), |first| {
+        format!(r#"{{"place":{},"value":{}}}"#, first.place, first.value)
+    });
+    format!(
+        r#"{{"file":{},"entropy":{entropy:?},"sixty_fourths":{},"cutoff":{},"samples":{},"first_alarm":{first},"alarms":{},"runs":{}}}"#,
+        quoted(file),
+        heard.sixty_fourths,
+        heard.cutoff,
+        heard.samples,
+        heard.alarms,
+        heard.runs
+    ) + "\n"
 }
 
 /// A JSON string.

@@ -1,8 +1,9 @@
-//! The command for the people at the bench: rates captures with the proved library, and writes and
-//! shows its records.
+//! The command for the people at the bench: rates captures with the proved library, writes and
+//! shows its records, and runs the repetition count test over captures.
 
 mod arguments;
 mod files;
+mod health;
 mod help;
 mod json;
 mod list;
@@ -11,10 +12,12 @@ mod progress;
 mod rate;
 mod reason;
 mod records;
+mod repetition;
 mod row;
 mod show;
 mod streams;
 mod table;
+mod verdict;
 mod whole;
 mod work;
 
@@ -27,6 +30,7 @@ fn main() -> ExitCode {
         Ok(Call::Version) => ended(streams::output_is_open() && streams::print(help::VERSION)),
         Ok(Call::Rate(call)) => ended(rated(&call)),
         Ok(Call::Show(call)) => ended(shown(&call)),
+        Ok(Call::Health(call)) => ended(tested(&call)),
         Err(error) => {
             let usage = help::USAGE;
             streams::say(&format!("{error}\n{usage}\nabutfern --help says the rest"));
@@ -50,6 +54,10 @@ fn rated(call: &arguments::Rate) -> bool {
 
 fn shown(call: &arguments::Show) -> bool {
     has(row::CALLED) && streams::output_is_open() && show::show_all(call)
+}
+
+fn tested(call: &arguments::Health) -> bool {
+    has(repetition::CALLED) && streams::output_is_open() && health::test_all(call)
 }
 
 /// Whether the library has these functions; says so if not.

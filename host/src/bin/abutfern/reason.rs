@@ -7,18 +7,19 @@ use abutfern::numbers::{PREDICTION_LIMIT, ROUND_LIMIT, SYMBOL_LIMIT};
 /// What the length field of a record says: the bytes that follow it.
 const LENGTH: u64 = RECORD_SIZE as u64 - 4;
 
-/// The last of the answer numbers that are given.
-const GIVEN: u64 = 7;
+/// The answer numbers that are given: up to the first of these, and the second.
+const GIVEN: [u64; 2] = [7, 10];
 
 /// The first thing that is wrong with the record at the start of some bytes, if anything is.
 pub fn of(bytes: &[u8]) -> Option<String> {
     envelope(bytes).or_else(|| {
         let fields = Fields::read(bytes);
+        let [last, other] = GIVEN;
         match fields.number {
             0 => ran(&fields),
-            1..=GIVEN => refused(&fields),
+            number if number <= last || number == other => refused(&fields),
             number => Some(format!(
-                "its answer number is {number}, and 0 to {GIVEN} are given"
+                "its answer number is {number}, and 0 to {last} and {other} are given"
             )),
         }
     })

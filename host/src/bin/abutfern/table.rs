@@ -136,7 +136,7 @@ pub fn grouped(number: u64) -> String {
 }
 
 /// A number of things, of which one is called `thing`.
-fn counted(number: u64, thing: &str) -> String {
+pub fn counted(number: u64, thing: &str) -> String {
     let more = if number == 1 { "" } else { "s" };
     format!("{} {thing}{more}", grouped(number))
 }

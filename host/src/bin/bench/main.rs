@@ -1,5 +1,5 @@
 //! The benchmark: the library's time over the Rust's in the same run, that of the translators over a
-//! plain loop's, and how the library's time grows with the capture.
+//! plain loop's, that of the repetition test, and how the library's time grows with the capture.
 
 mod calls;
 mod captures;
@@ -7,6 +7,7 @@ mod clock;
 mod crafted;
 mod lookup;
 mod records;
+mod repetition;
 mod track;
 
 use abutfern::exported;
@@ -22,7 +23,7 @@ bench: the library's time beside the Rust's, both built for release
   --symbols N   symbols in a capture (default 1000000)
   --only NAME   one function, as multi_mcw_literal, or lookup: the translators beside a plain
                 loop in C over a table of 256, or calls: the functions of numbers, or records: a
-                row of 1,000,000 of them
+                row of 1,000,000 of them, or repetition: the repetition test, a call a sample
   --grow        the library's time for 10,000 to 16,777,216 symbols instead; a length that would
                 take over five minutes is left out
 
@@ -66,6 +67,9 @@ fn main() -> ExitCode {
         }
         if wanted("records") {
             records::print();
+        }
+        if wanted("repetition") {
+            repetition::print(symbols);
         }
     }
     ExitCode::SUCCESS

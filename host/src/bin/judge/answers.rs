@@ -12,12 +12,13 @@ use abutfern::{Answer, Estimate};
 const NUMBERS: usize = 7;
 
 /// Whole numbers at which something changes: the limits of the fields, of their bytes and of words.
-const LIMITS: [u64; 14] = [
+const LIMITS: [u64; 15] = [
     0,
     1,
     4,
     7,
     10,
+    11,
     256,
     ROUND_LIMIT,
     1 << 16,
@@ -100,7 +101,7 @@ pub fn of_each_number() -> Vec<Answer> {
 /// Answers that no record may hold: numbers that are not given, a 0 that did not run, refusals with
 /// a place, and places that no capture has.
 pub fn of_no_number() -> Vec<Answer> {
-    let numbers = [0, 8, 9, 10, 128, 255, 256, 259, 263, 1 << 32, u64::MAX];
+    let numbers = [0, 8, 9, 11, 128, 255, 256, 259, 263, 1 << 32, u64::MAX];
     let misplaced = placeless().map(|number| (number, 1));
     let too_far = [(3, SYMBOL_LIMIT as u64), (3, u64::MAX)];
     let refusals = numbers.map(|number| (number, 0)).into_iter();

@@ -8,7 +8,8 @@ judge: compare the proved library with the Rust that it was ported from
   judge --replay FILE [--replay FILE ..]
 
   --seconds N     how long to compare (default 60), shared by the families
-  --only FAMILY   one family: capture, real, prediction, mcw, mmc, rules, board or records
+  --only FAMILY   one family: capture, real, prediction, mcw, mmc, rules, board, records,
+                  repetition or states
   --seed S        another random sequence (default 1)
   --replay FILE   replay a list of the Rust's answers instead, which `sample` wrote; the Rust's
                   sources are not needed for that

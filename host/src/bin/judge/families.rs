@@ -2,7 +2,7 @@
 
 use crate::arguments::Arguments;
 use crate::tally::Clock;
-use crate::{board, capture, mcw, mmc, prediction, real, records, rules};
+use crate::{board, capture, mcw, mmc, prediction, real, records, repetition, rules, states};
 use abutfern::exported;
 use abutfern::random::Random;
 
@@ -14,7 +14,7 @@ struct Family {
     judge: fn(Clock, &mut Random) -> u64,
 }
 
-const FAMILIES: [Family; 8] = [
+const FAMILIES: [Family; 10] = [
     Family {
         name: "capture",
         weight: 2,
@@ -66,6 +66,18 @@ const FAMILIES: [Family; 8] = [
         weight: 2,
         functions: &["write_record", "read_record", "read_records", "record_at"],
         judge: records::judge,
+    },
+    Family {
+        name: "repetition",
+        weight: 2,
+        functions: &["repetition_cutoff", "repetition_start", "repetition_sample"],
+        judge: repetition::judge,
+    },
+    Family {
+        name: "states",
+        weight: 1,
+        functions: &["repetition_sample"],
+        judge: states::judge,
     },
 ];
 

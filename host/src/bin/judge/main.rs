@@ -15,6 +15,8 @@ mod codec;
 #[cfg(has_reference)]
 mod counters;
 #[cfg(has_reference)]
+mod entropies;
+#[cfg(has_reference)]
 mod estimate;
 #[cfg(has_reference)]
 mod exact;
@@ -24,6 +26,8 @@ mod families;
 mod floats;
 #[cfg(has_reference)]
 mod lent;
+#[cfg(has_reference)]
+mod lists;
 #[cfg(has_reference)]
 mod mcw;
 #[cfg(has_reference)]
@@ -38,6 +42,10 @@ mod reader;
 mod real;
 #[cfg(has_reference)]
 mod records;
+#[cfg(has_reference)]
+mod repeats;
+#[cfg(has_reference)]
+mod repetition;
 mod replay;
 #[cfg(has_reference)]
 mod rows;
@@ -45,6 +53,10 @@ mod rows;
 mod rules;
 #[cfg(has_reference)]
 mod space;
+#[cfg(has_reference)]
+mod standing;
+#[cfg(has_reference)]
+mod states;
 #[cfg_attr(not(has_reference), allow(dead_code))]
 mod tally;
 mod trip;

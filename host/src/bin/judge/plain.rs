@@ -10,8 +10,9 @@ use std::ops::RangeInclusive;
 /// The widths that are taken: demand 2 compares with the Rust on these alone.
 pub const TAKEN: [u8; 8] = [1, 2, 3, 4, 5, 6, 7, 8];
 
-/// The numbers that an answer can have. 8 and 9 are said of records, not in them.
-pub const GIVEN: [u64; 8] = [0, 1, 2, 3, 4, 5, 6, 7];
+/// The numbers that an answer can have: 10, which is said of a running test, is given too. 8 and 9
+/// are said of records, not in them.
+pub const GIVEN: [u64; 9] = [0, 1, 2, 3, 4, 5, 6, 7, 10];
 
 /// A refusal: its number and its place.
 pub type Refusal = (u64, u64);

@@ -1,0 +1,4 @@
+pub mod History
+pub mod Repetition
+pub mod InRow
+pub mod inner
