@@ -8,13 +8,15 @@ use native.Mathlib.Omega.{arith}
 use lib.Dec.{eqb, leb, ltb}
 use lib.Ieee.{Float}
 use borrow.Author.Tests.{eq-eqb, leb-false, leb-true, ltb-false, ltb-true, ne-eqb}
-use Rattle.answer.specs.Numbers.{done}
+use Rattle.answer.specs.Numbers.{badState, done}
+use Rattle.cutoff.specs.Cutoff.{inRange}
 use Rattle.repetition.specs.declared.step.RepetitionTest.{RepetitionTest}
 use Rattle.repetition.specs.declared.step.Alarm.{Alarm}
-use Rattle.repetition.specs.History.{Started, cutoffFor, lastSample, left, run}
-use Rattle.repetition.specs.Repetition.{Sampled, alarmAfter}
+use Rattle.repetition.specs.History.{History, Possible, cutoffFor, lastSample, left, never, run, since}
+use Rattle.repetition.specs.inner.Started.{Started}
+use Rattle.repetition.specs.Repetition.{Sampled, after, answered, noAlarm}
 use Rattle.repetition.specs.inner.Counted.{counted}
-use Rattle.repetition.proofs.Histories.{cutoff-pos}
+use Rattle.repetition.proofs.Histories.{cutoff-pos, never-apart}
 use Rattle.repetition.proofs.Runs.{last-then, run-then}
 
 stepped : (r c : ℕ) (same less : Bool) → 0 < c → ltb (min r c) c ≡ less → min (suc (cond same r 0)) c ≡ cond same (cond less (min r c + 1) (min r c)) 1
@@ -23,7 +25,7 @@ stepped r c true false p e = omega (arith, ltb-false (min r c) c e)
 stepped r c false less p e = omega (arith, p)
 
 -- the count of what the history leaves
-pub counted-left : (h : Float) (s : List ℕ) (x : ℕ) → 0 < cutoffFor h → counted (left h s) x ≡ min (run (s ++ x ∷ [])) (cutoffFor h)
+pub counted-left : (h : Float) (s : List ℕ) (x : ℕ) → 0 < cutoffFor h → counted (left (since h s)) x ≡ min (run (s ++ x ∷ [])) (cutoffFor h)
 unfolding counted
 counted-left h s x p =
     sym (ap (λ (n : ℕ). min n (cutoffFor h)) (run-then s x) ∙ stepped (run s) (cutoffFor h) (eqb x (lastSample s)) (ltb (min (run s) (cutoffFor h)) (cutoffFor h)) p refl)
@@ -43,18 +45,28 @@ answerOf st x = record { number = done; alarm = cond (eqb (counted st x) (st .cu
 abbrev pub nextOf : RepetitionTest → ℕ → RepetitionTest
 nextOf st x = record { cutoff = st .cutoff; «last_sample» = x; count = counted st x }
 
-heard-left : (h : Float) (s : List ℕ) (x : ℕ) → 0 < cutoffFor h → (answerOf (left h s) x ≡ alarmAfter h (s ++ x ∷ [])) × (nextOf (left h s) x ≡ left h (s ++ x ∷ []))
-heard-left h s x p =
-    let count = counted-left h s x p in
+heard : (h : Float) (s : List ℕ) (x : ℕ) → inRange h ≡ true
+    → (answerOf (left (since h s)) x ≡ answered (since h (s ++ x ∷ []))) × (nextOf (left (since h s)) x ≡ left (since h (s ++ x ∷ [])))
+heard h s x taken =
+    let count = counted-left h s x (cutoff-pos h taken) in
     let stands = ap (λ (n : ℕ). eqb n (cutoffFor h)) count ∙ reached (run (s ++ x ∷ [])) (cutoffFor h) in (
       λ i. record { number = done; alarm = cond (stands i) 1 0 },
       λ i. record { cutoff = cutoffFor h; «last_sample» = sym (last-then s x) i; count = count i },
     )
 
-pub sampled-of : (st : RepetitionTest) (x : ℕ) → Started st → Sampled st x (answerOf st x) (nextOf st x)
-sampled-of st x started = record {
-  heard = λ h.
-      subst (λ (t : RepetitionTest). (answerOf t x ≡ alarmAfter (h .entropy) (h .samples ++ x ∷ [])) × (nextOf t x ≡ left (h .entropy) (h .samples ++ x ∷ [])))
-      (sym (h .is)) (heard-left (h .entropy) (h .samples) x (cutoff-pos (h .entropy) (h .taken)));
-  refused = λ none. absurd (none started);
-}
+-- ---- the outcome of a sample, where a start and samples could have left the state and where not
+module _ (st : RepetitionTest) (x : ℕ) where
+  pub sampled-of : Started st → Sampled st x (answerOf st x) (nextOf st x)
+  sampled-of started = record { known = known; foreign = λ none. absurd (none (since (started .entropy) (started .samples)) (started .possible) (started .is)) }
+    where
+      known : (p : History) → Possible p → st ≡ left p → (answerOf st x ≡ answered (after p x)) × (nextOf st x ≡ left (after p x))
+      known never q e = absurd (never-apart (started .entropy) (started .samples) (started .possible) (sym e ∙ started .is))
+      known (since h s) q e =
+          subst (λ (t : RepetitionTest). (answerOf t x ≡ answered (since h (s ++ x ∷ []))) × (nextOf t x ≡ left (since h (s ++ x ∷ [])))) (sym e) (heard h s x (q .1))
+
+  pub unheard : (Started st → ⊥) → Sampled st x (noAlarm badState) st
+  unheard none = record { known = known; foreign = λ _. (refl, refl) }
+    where
+      known : (p : History) → Possible p → st ≡ left p → (noAlarm badState ≡ answered (after p x)) × (st ≡ left (after p x))
+      known never q e = (refl, e)
+      known (since h s) q e = absurd (none (record { entropy = h; samples = s; possible = q; is = e }))

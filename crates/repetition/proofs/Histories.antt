@@ -5,11 +5,13 @@ use Prim.Native.Nat.{ℕ, zero, suc, _<_, _≤_, min}
 use native.Mathlib.Nat.{min-eq-left}
 use native.Mathlib.Omega.{arith}
 use mathlib.Core.Bool.{true}
+use mathlib.Core.List.{List}
 use lib.Ieee.{Float}
 use Rattle.cutoff.specs.Cutoff.{Entry, cutoffAt, entryOf, inRange}
-use Rattle.cutoff.proofs.Entries.{EntropyOf, cutoff-above, entry-of-share, entry-range}
+use Rattle.cutoff.proofs.Entries.{cutoff-above, entry-of-share, entry-range}
 use Rattle.repetition.specs.declared.step.RepetitionTest.{RepetitionTest}
-use Rattle.repetition.specs.History.{Started, cutoffFor, lastSample, left, neverStarted, run}
+use Rattle.repetition.specs.History.{Possible, cutoffFor, lastSample, left, never, run, since}
+use Rattle.repetition.specs.inner.Started.{Started}
 use Rattle.repetition.proofs.Runs.{last-byte, no-run, repeated, repeated-bytes, repeated-last, repeated-run}
 
 pub record Fields (st : RepetitionTest) : Type 0 where
@@ -35,9 +37,7 @@ started-of st f =
     record {
       entropy = e .entropy;
       samples = s;
-      double = e .double;
-      taken = e .taken;
-      bytes = repeated-bytes (st .count) (st .«last_sample») (f .byte);
+      possible = (e .double, e .taken, repeated-bytes (st .count) (st .«last_sample») (f .byte));
       is = λ i. record { cutoff = cut i; «last_sample» = last-of (st .count) (st .«last_sample») (f .blank) i; count = counted i };
     }
 
@@ -45,26 +45,22 @@ started-of st f =
 pub cutoff-pos : (h : Float) → inRange h ≡ true → 0 < cutoffFor h
 cutoff-pos h taken = let r = entry-range h taken in omega (arith, cutoff-above (entryOf h) (r .0) (r .1))
 
-pub started-entry : (st : RepetitionTest) → Started st → Entry (st .cutoff)
-started-entry st h =
-    let r = entry-range (h .entropy) (h .taken) in
-    record { j = entryOf (h .entropy); from = r .0; to = r .1; is = ap (λ (t : RepetitionTest). t .cutoff) (h .is) }
-
 none-counted : (n c : ℕ) → 0 < c → min n c ≡ 0 → n ≡ 0
 none-counted n c p e = omega (arith, e)
 
 pub fields-of : (st : RepetitionTest) → Started st → Fields st
 fields-of st h =
+    let r = entry-range (h .entropy) (h .possible .1) in
     let cut = ap (λ (t : RepetitionTest). t .cutoff) (h .is) in
     let count = ap (λ (t : RepetitionTest). t .count) (h .is) in
     let last = ap (λ (t : RepetitionTest). t .«last_sample») (h .is) in
     record {
-      entry = started-entry st h;
+      entry = record { j = entryOf (h .entropy); from = r .0; to = r .1; is = cut };
       within = omega (arith, cut, count);
-      byte = subst (λ (x : ℕ). x < 256) (sym last) (last-byte (h .samples) (h .bytes));
-      blank = λ z. last ∙ no-run (h .samples) (none-counted (run (h .samples)) (cutoffFor (h .entropy)) (cutoff-pos (h .entropy) (h .taken)) (sym count ∙ z));
+      byte = subst (λ (x : ℕ). x < 256) (sym last) (last-byte (h .samples) (h .possible .2));
+      blank = λ z. last ∙ no-run (h .samples) (none-counted (run (h .samples)) (cutoffFor (h .entropy)) (cutoff-pos (h .entropy) (h .possible .1)) (sym count ∙ z));
     }
 
--- a state that was never started is left by no start
-pub not-started : Started neverStarted → ⊥
-not-started h = omega (arith, ap (λ (t : RepetitionTest). t .cutoff) (h .is), cutoff-pos (h .entropy) (h .taken))
+-- no start and samples leave the state of a test that was never started
+pub never-apart : (h : Float) (s : List ℕ) → Possible (since h s) → left never ≡ left (since h s) → ⊥
+never-apart h s p e = omega (arith, ap (λ (t : RepetitionTest). t .cutoff) e, cutoff-pos h (p .1))

@@ -1,6 +1,6 @@
 -- The run and the last sample of a list, as one more sample comes: it is one longer where that sample is the last one again, and 1 otherwise. The list read
 -- backwards has the new sample in front, which is all there is to it. Assumes nothing.
-use mathlib.Core.Path.{_≡_, refl, sym, ap, _∙_, subst}
+use mathlib.Core.Path.{_≡_, refl, sym, ap, _∙_}
 use mathlib.Core.Bool.{Bool, true, false, cond}
 use mathlib.Core.List.{List, [], _∷_, _++_, reverse, reverseAux}
 use Prim.Native.Nat.{ℕ, zero, suc, _<_}

@@ -1,6 +1,6 @@
 -- Calls in a row: a start, then a sample, a sample, .., each with the state that the call before it left. Definitions only.
 use mathlib.Core.Path.{_≡_}
-use mathlib.Core.List.{List, [], _∷_, _++_}
+use mathlib.Core.List.{List, [], _∷_}
 use Prim.Native.Nat.{ℕ, _≤_}
 use lib.Ieee.{Float}
 use Rattle.answer.specs.Numbers.{done}

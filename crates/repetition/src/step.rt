@@ -5,9 +5,9 @@ use cutoff::cutoff_for;
 use cutoff::is_cutoff;
 ghost use mathlib.Core.Path.{_≡_};
 ghost use mathlib.Core.Bool.{true};
-ghost use Rattle.repetition.specs.History.{Started};
 ghost use Rattle.repetition.specs.Repetition.{Sampled, beginNumber, begun};
 ghost use Rattle.repetition.specs.inner.Counted.{counted};
+ghost use Rattle.repetition.specs.inner.Started.{Started};
 
 // The running test's state, lent by the host; all 0 where it was never started.
 #[repr(C)]

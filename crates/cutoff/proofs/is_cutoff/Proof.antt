@@ -2,13 +2,13 @@
 -- up once. That entry is no later, so it is in the table where the other is. Assumes nothing.
 use borrow.Author.Needs.{needs}
 use borrow.Author.Tests.{lt-ltb, ltb-true}
-use mathlib.Core.Path.{_≡_, sym, ap, _∙_, subst}
+use mathlib.Core.Path.{_≡_, sym, subst}
 use mathlib.Core.Bool.{Bool, true, false, false≢true}
 use Prim.Native.Nat.{ℕ, _-_, _*_, _≤_, _<_, _^_}
 use native.Mathlib.Nat.{lt-of-le-of-lt, mul-le-mul, not-le-of-lt}
 use native.Mathlib.Omega.{arith}
 use lib.Dec.{lit<, ltb}
-use Rattle.cutoff.specs.Cutoff.{Entry, entries, roundedUp, spread}
+use Rattle.cutoff.specs.Cutoff.{Entry, entries, spread}
 use Rattle.cutoff.proofs.Entries.{cutoff-above, first-entry-from, first-entry-has, first-entry-is, first-entry-to, first-entry-under, firstEntry}
 use Rattle.cutoff.proofs.is_cutoff.Statement.{statement}
 use Rattle.cutoff.proofs.is_cutoff.Tie as tie

@@ -85,12 +85,9 @@ module _ {M : Type 1} (𝓤 : URA M) (H : Heap 𝓤) (A : Atoms 𝓤) (W : Given
   abbrev at : List Val × (List Val × Unit {0})
   at = (vptr b o ∷ [], (vfloat binary64 n ∷ [], tt))
 
-  -- the machine values of a state and of what `begin` returns
+  -- a state's machine value
   abbrev mach : RepetitionTest → Val
   mach st = LL.val T.the-type T′.the-laws st
-
-  abbrev result : Begun → Val
-  result r = LL.val B.the-type B′.the-laws r
 
   abbrev Post : Val → SProp 𝓤
   Post = walkOf 𝓤 H A f.ended stayed (f.clauses 𝓤 H A at-mem run) .post (((κ, tt), (q, tt), tt, x, at), tt)

@@ -12,7 +12,7 @@ use Rattle.cutoff.specs.Cutoff.{cutoffOf, entryOf, inRange}
 use Rattle.cutoff.specs.declared.Cutoff.{Cutoff}
 use Rattle.cutoff.proofs.Entries.{cutoff-small, entry-range}
 use Rattle.repetition.specs.declared.step.RepetitionTest.{RepetitionTest}
-use Rattle.repetition.specs.History.{cutoffFor, lastSample, left, run}
+use Rattle.repetition.specs.History.{cutoffFor, lastSample, left, run, since}
 use Rattle.repetition.specs.Repetition.{beginNumber, begun}
 use Rattle.repetition.proofs.step.begin.Statement.{statement}
 use Rattle.repetition.proofs.step.begin.Tie as tie
@@ -24,7 +24,7 @@ Says st h n st′ = (n ≡ beginNumber h) × (st′ ≡ begun st h)
 abbrev fresh : ℕ → RepetitionTest
 fresh n = record { cutoff = n; «last_sample» = 0; count = 0 }
 
-fresh-left : (h : Float) → fresh (cutoffFor h) ≡ left h []
+fresh-left : (h : Float) → fresh (cutoffFor h) ≡ left (since h [])
 unfolding lastSample run
 fresh-left h = λ i. record { cutoff = cutoffFor h; «last_sample» = 0; count = sym (zero-min (cutoffFor h)) i }
 
@@ -37,9 +37,9 @@ module _ (h : Float) (b : Bool) (e : inRange h ≡ b) where
   unfolding beginNumber
   answers = ap (λ (t : Bool). cond t done outOfRange) e
 
-  leaves : (st : RepetitionTest) → begun st h ≡ cond b (left h []) st
+  leaves : (st : RepetitionTest) → begun st h ≡ cond b (left (since h [])) st
   unfolding begun
-  leaves st = ap (λ (t : Bool). cond t (left h []) st) e
+  leaves st = ap (λ (t : Bool). cond t (left (since h [])) st) e
 
 module _ (st : RepetitionTest) (h : Float) (f : Cutoff) (e : f ≡ cutoffOf h) where
   refused : (f .number ≡ done → ⊥) → Says st h (f .number) st

@@ -1,22 +1,19 @@
 -- `step::hear` meets its contract. A state that no start and samples could have left is refused as it is; any other is counted on as Hearing says. Assumes nothing.
 use borrow.Author.Needs.{needs}
 use borrow.Author.Tests.{not-false, not-true}
-use mathlib.Core.Path.{_≡_, refl, sym, ap, _∙_, subst}
+use mathlib.Core.Path.{_≡_, refl, sym, _∙_, subst}
 use mathlib.Core.Bool.{Bool, true, false, cond, true≢false}
 use Prim.Native.Nat.{ℕ}
 use lib.Dec.{eqb}
 use mir.Val.{boolByte}
-use Rattle.answer.specs.Numbers.{badState, done}
+use Rattle.answer.specs.Numbers.{done}
 use Rattle.repetition.specs.declared.step.RepetitionTest.{RepetitionTest}
-use Rattle.repetition.specs.History.{Started}
-use Rattle.repetition.specs.Repetition.{Sampled, noAlarm}
+use Rattle.repetition.specs.Repetition.{Sampled}
 use Rattle.repetition.specs.inner.Counted.{counted}
-use Rattle.repetition.proofs.Hearing.{sampled-of}
+use Rattle.repetition.specs.inner.Started.{Started}
+use Rattle.repetition.proofs.Hearing.{sampled-of, unheard}
 use Rattle.repetition.proofs.step.hear.Statement.{statement}
 use Rattle.repetition.proofs.step.hear.Tie as tie
-
-unheard : (st : RepetitionTest) (x : ℕ) → (Started st → ⊥) → Sampled st x (noAlarm badState) st
-unheard st x none = record { heard = λ h. absurd (none h); refused = λ _. (refl, refl) }
 
 -- a bool as a number
 flag : (b : Bool) → cond b 1 0 ≡ boolByte b

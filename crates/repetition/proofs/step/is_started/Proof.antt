@@ -1,14 +1,14 @@
 -- `step::is_started` meets its contract. Its tests say of the fields what Histories says of a state that a start and samples could have left. Assumes nothing.
 use borrow.Author.Needs.{needs}
 use borrow.Author.Tests.{eq-eqb, eqb-true, le-leb, leb-true, not-false, not-true}
-use mathlib.Core.Path.{_≡_, refl, sym, _∙_}
+use mathlib.Core.Path.{_≡_, sym, _∙_}
 use mathlib.Core.Bool.{Bool, true, false, true≢false}
-use Prim.Native.Nat.{ℕ, _≤_, _<_}
+use Prim.Native.Nat.{_≤_}
 use native.Mathlib.Omega.{arith}
 use lib.Dec.{eqb, leb}
 use Rattle.cutoff.specs.Cutoff.{Entry}
 use Rattle.repetition.specs.declared.step.RepetitionTest.{RepetitionTest}
-use Rattle.repetition.specs.History.{Started}
+use Rattle.repetition.specs.inner.Started.{Started}
 use Rattle.repetition.proofs.Histories.{Fields, fields-of, started-of}
 use Rattle.repetition.proofs.step.is_started.Statement.{statement}
 use Rattle.repetition.proofs.step.is_started.Tie as tie
