@@ -2,7 +2,7 @@
 
 use crate::arguments::Health;
 use crate::repetition::{self, Heard};
-use crate::{json, names, streams, verdict};
+use crate::{failure, json, names, streams, verdict};
 use std::path::Path;
 
 /// Tests every file; true if each was tested and has no alarm.
@@ -17,18 +17,10 @@ pub fn test_all(call: &Health) -> bool {
 /// Prints one file; true if it was tested and has no alarm. The program ends where it cannot be
 /// printed.
 fn print(file: &Path, tested: &Result<Heard, String>, call: &Health) -> bool {
-    let (shown, name) = (names::shown(file), file.to_string_lossy());
     let text = match tested {
-        Ok(heard) if call.json => json::test(&name, call.entropy, heard),
-        Ok(heard) => verdict::text(&shown, heard),
-        Err(error) => {
-            streams::say(&format!("{shown} {error}"));
-            if call.json {
-                json::failure(&name, error)
-            } else {
-                String::new()
-            }
-        }
+        Ok(heard) if call.json => json::test(&file.to_string_lossy(), call.entropy, heard),
+        Ok(heard) => verdict::text(&names::shown(file), heard),
+        Err(error) => failure::told(file, error, call.json),
     };
     if !streams::print(&text) {
         std::process::exit(1);

@@ -2,6 +2,7 @@
 //! shows its records, and runs the repetition count test over captures.
 
 mod arguments;
+mod failure;
 mod files;
 mod health;
 mod help;

@@ -4,7 +4,7 @@ use crate::arguments::Rate;
 use crate::progress::Progress;
 use crate::rate::{Lent, Rated, rate};
 use crate::records::Records;
-use crate::{files, json, names, streams, table};
+use crate::{failure, files, json, names, streams, table};
 use std::collections::BTreeMap;
 use std::path::Path;
 use std::sync::atomic::{AtomicUsize, Ordering};
@@ -97,18 +97,10 @@ fn print_in_order(
 
 /// Prints one rating; true if it has a figure. The program ends where it cannot be printed.
 fn print(file: &Path, rated: &Rated, call: &Rate) -> bool {
-    let (shown, name) = (names::shown(file), file.to_string_lossy());
     let text = match rated {
-        Ok(rating) if call.json => json::text(&name, rating),
-        Ok(rating) => table::text(&shown, rating),
-        Err(error) => {
-            streams::say(&format!("{shown} {error}"));
-            if call.json {
-                json::failure(&name, error)
-            } else {
-                String::new()
-            }
-        }
+        Ok(rating) if call.json => json::text(&file.to_string_lossy(), rating),
+        Ok(rating) => table::text(&names::shown(file), rating),
+        Err(error) => failure::told(file, error, call.json),
     };
     if !streams::print(&text) {
         if let Some(out) = &call.records {
