@@ -3,6 +3,7 @@
 use crate::captures::{Capture, captures};
 use crate::clock;
 use crate::track::all;
+use crate::worst::Worst;
 use abutfern::numbers::{SYMBOL_LIMIT, meaning};
 use abutfern::{Alphabet, exported};
 use std::hint::black_box;
@@ -53,12 +54,12 @@ fn ratios(plain: Lookup, length: usize) {
     let head = format!("one symbol of {length}");
     println!("\n{head:<37}         ours       C loop   ratio");
     for (name, translate) in TRANSLATORS.iter().filter(|(name, _)| exported(name)) {
-        let mut worst = 0.0f64;
+        let mut worst = Worst::new();
         for capture in captures.iter().filter(|capture| all(capture)) {
             let times = times(*translate, plain, &capture.symbols, &mut lent);
-            worst = worst.max(line(name, capture, times));
+            worst.meet(line(name, capture, times), capture.name);
         }
-        println!("{name:<22} worst {worst:>42.3}");
+        worst.print(name);
     }
 }
 

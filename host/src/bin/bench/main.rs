@@ -5,15 +5,19 @@ mod calls;
 mod captures;
 mod clock;
 mod crafted;
+mod files;
 mod lookup;
 mod records;
 mod repetition;
+mod sources;
 mod track;
+mod worst;
 
 use abutfern::exported;
 use captures::{Capture, captures};
 use std::process::ExitCode;
 use track::{Lent, TRACKS, Track};
+use worst::Worst;
 
 const HELP: &str = "\
 bench: the library's time beside the Rust's, both built for release
@@ -80,20 +84,18 @@ fn help(status: u8) -> ExitCode {
     ExitCode::from(status)
 }
 
-/// One line for each track and capture, and the worst ratio of each track.
+/// One line for each track and capture, and the worst ratio of each track with where it was.
 fn ratios(tracks: &[&Track], length: usize) {
     let captures = captures(length);
     let mut lent = Lent::new(length);
     println!("{length} symbols                              ours         Rust   ratio");
     for track in tracks.iter().filter(|track| exported(track.name)) {
-        let mut worst = 0.0f64;
+        let mut worst = Worst::new();
         for capture in captures.iter().filter(|capture| (track.takes)(capture)) {
             let ratio = line(track, capture, &mut lent);
-            worst = worst.max(ratio.unwrap_or(0.0));
+            worst.meet(ratio.unwrap_or(0.0), capture.name);
         }
-        if worst > 0.0 {
-            println!("{:<22} worst {worst:>37.3}", track.title);
-        }
+        worst.print(track.title);
     }
 }
 

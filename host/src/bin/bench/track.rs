@@ -52,12 +52,8 @@ pub fn all(capture: &Capture) -> bool {
     matches!(capture.kind, Kind::Usual | Kind::Gapped)
 }
 
-fn usual(capture: &Capture) -> bool {
-    capture.kind == Kind::Usual
-}
-
 fn further(capture: &Capture) -> bool {
-    matches!(capture.kind, Kind::Usual | Kind::Further)
+    matches!(capture.kind, Kind::Usual | Kind::Further | Kind::Stored)
 }
 
 fn binary(capture: &Capture) -> bool {
@@ -65,7 +61,8 @@ fn binary(capture: &Capture) -> bool {
 }
 
 fn wider(capture: &Capture) -> bool {
-    capture.width > 1 && capture.kind != Kind::Gapped
+    let stored = matches!(capture.kind, Kind::Usual | Kind::Stored | Kind::Crafted);
+    capture.width > 1 && stored
 }
 
 fn mmc_literal(capture: &Capture, lent: &mut Lent) {
@@ -111,7 +108,7 @@ pub const TRACKS: [Track; 7] = [
     Track {
         name: "multi_mcw",
         title: "MultiMCW bits",
-        takes: usual,
+        takes: further,
         ours: |capture, _| {
             black_box(abutfern::multi_mcw(&capture.symbols, capture.width));
         },
