@@ -1,12 +1,12 @@
 -- One place of MultiMCW: the race goes on by what the windows say; the places before 63 change nothing. Assumes nothing.
-use mathlib.Core.Path.{_≡_, _∙_}
+use mathlib.Core.Path.{_≡_, ap, _∙_}
 use mathlib.Core.List.{List}
 use Prim.Native.Nat.{ℕ, zero, suc, _+_, _-_, _≤_, _<_}
 use native.Mathlib.Omega.{arith}
 use lib.Dec.{leb}
 use lib.ListN.{length, replicate}
 use borrow.Author.Tests.{leb-true, leb-false, lt-leb}
-use Rattle.race.specs.Race.{silent, judge, scored, sample}
+use Rattle.race.specs.Race.{Guess, silent, none, judge, scored, sample}
 use Rattle.race.specs.inner.Held.{heardFrom, after, tallied, counterLimit, Countable, Led, Leadable}
 use Rattle.race.specs.declared.Leader.{Leader}
 use Rattle.race.specs.declared.Tally.{Tally}
@@ -23,6 +23,10 @@ four P a b c d (suc zero) l = b
 four P a b c d (suc (suc zero)) l = c
 four P a b c d (suc (suc (suc zero))) l = d
 four P a b c d (suc (suc (suc (suc j)))) l = absurd (omega arith)
+
+-- the same guess, held against the same
+pub same-verdict : {g h : Guess} {x y : ℕ} → g ≡ h → x ≡ y → judge g x ≡ judge h y
+same-verdict e f = cc
 
 -- the race before place i
 pub record RacedAt (s : List ℕ) (i : ℕ) (leader : Leader) (scores : List ℕ) (t : Tally) : Type 0 where
@@ -51,22 +55,23 @@ module _ {s : List ℕ} {i : ℕ} {leader : Leader} {scores : List ℕ} {t : Tal
   pub mcw-leadable : {x : ℕ} {gs : List ℕ} → x < 256 → i < counterLimit → length gs ≡ 4 → Leadable scores gs leader x
   mcw-leadable b l e = race-leadable (R .raced) _ _ b (omega arith) (omega arith) e
 
-  -- the guesses gs of place i, where x comes
-  module _ {x : ℕ} (gs : List ℕ) (many : length gs ≡ 4) (came : x ≡ sample s i) (heard-as : (j : ℕ) → j < 4 → heardFrom gs j ≡ said s i j)
+  -- guesses gs that have, held against x, the verdicts of place i
+  module _ (x : ℕ) (gs : List ℕ) (many : length gs ≡ 4) (told : (j : ℕ) → j < 4 → judge (heardFrom gs j) x ≡ judge (said s i j) (sample s i))
       {leader′ : Leader} {scores′ : List ℕ} {t′ : Tally}
       (L : Led (scored (heardFrom gs) x (after (leader .winner) scores) (length gs)) leader′ scores′)
       (te : t′ ≡ tallied (judge (heardFrom gs (leader .winner)) x) t) where
     early : i < size 0 → RacedAt s (i + 1) leader′ scores′ t′
     early l =
         let e : i + 1 - size 0 ≡ i - size 0 = omega arith in
-        let quiet : (j : ℕ) → j < 4 → heardFrom gs j ≡ silent = λ j b. heard-as j b ∙ said-silent s i l j b in
+        let quiet : (j : ℕ) → j < 4 → judge (heardFrom gs j) x ≡ none =
+        λ j b. told j b ∙ ap (λ (g : Guess). judge g (sample s i)) (said-silent s i l j b) in
         record { raced = rw e (race-idle (R .raced) x gs (omega arith) many quiet L te) }
 
     predicted : size 0 ≤ i → RacedAt s (i + 1) leader′ scores′ t′
     predicted l =
         let e : i + 1 - size 0 ≡ i - size 0 + 1 = omega arith in
         let p : size 0 + (i - size 0) ≡ i = omega arith in
-        record { raced = rw e (race-step (R .raced) x gs (omega arith) many (rw p came) (λ j b. rw p (heard-as j b)) L te) }
+        record { raced = rw e (race-step (R .raced) x gs (omega arith) many (λ j b. rw p (told j b)) L te) }
 
     pub mcw-step : RacedAt s (i + 1) leader′ scores′ t′
     mcw-step = tested (leb (size 0) i) (λ q. predicted (leb-true _ _ q)) (λ q. early (leb-false _ _ q))

@@ -11,7 +11,7 @@ use borrow.Author.Tests.{eq-eqb, ne-eqb, eqb-true, eqb-false}
 use Rattle.race.proofs.Cases.{tested, same?}
 use Rattle.mcw_bits.specs.inner.Counts.{before}
 use Rattle.mcw_bits.proofs.Counting.{before-other}
-use Rattle.mcw_symbols.specs.inner.Keys.{last}
+use Rattle.mcw_symbols.specs.inner.Samples.{last}
 
 pub last-same : (s : List ℕ) (x i : ℕ) → getD s i 0 ≡ x → last s x (i + 1) ≡ i + 1
 unfolding last

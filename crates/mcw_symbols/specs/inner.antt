@@ -1,1 +1,9 @@
-pub mod Keys
+pub mod Samples
+pub mod Candidate
+pub mod Search
+pub mod Ask
+pub mod Advance
+pub mod Windows
+pub mod Kept
+pub mod Tell
+pub mod Score

@@ -1,55 +1,57 @@
 // The whole run.
-use crate::slide::slide_all;
+use crate::Candidates;
+use crate::advance::advance;
+use crate::ask::ask;
+use crate::marks::taking;
+use crate::score::RIGHT;
+use crate::score::score;
+use crate::score::verdict_of;
+use crate::tell::tell;
+use crate::windows::enter;
+use crate::windows::leave_all;
+use capture::bits::wide;
+use lanes::part::spread;
 use mcw_bits::Counts;
-use mcw_bits::Four;
-use mcw_bits::say::say_all;
 use race::Leader;
-use race::SILENT;
 use race::Tally;
 use race::count;
-use race::lead;
 ghost use mathlib.Core.Path.{_≡_};
-ghost use Prim.Native.Nat.{_<_};
 ghost use Rattle.mcw_bits.specs.inner.Counts.{countsOf};
-ghost use Rattle.mcw_symbols.specs.inner.Keys.{Samples};
-
-fn symbol(x: u8) -> u16
-    ensures { λ r. ⌜ (r ≡ x) × (r < 256) ⌝ }
-{
-    x as u16
-}
+ghost use Rattle.mcw_symbols.specs.inner.Samples.{Samples};
 
 // C and the longest run over s, whose samples are below k.
 pub fn mcw_symbols(s: &[u8], k: usize) -> Counts
     requires { ⌜ Samples (now s) k ⌝ }
     ensures { λ r. ⌜ r ≡ countsOf (now (s .entry)) ⌝ }
 {
-    let mut k0 = [0u64; 256];
-    let mut k1 = [0u64; 256];
-    let mut k2 = [0u64; 256];
-    let mut k3 = [0u64; 256];
-    let mut f = Four {
-        first: 0,
-        second: 0,
-        third: 0,
-        fourth: 0,
-    };
+    let mut cnt = [0u64; 256];
+    let mut latest = [0u64; 256];
+    let mut scores = [0u64; 4];
+    let mut leader = Leader { winner: 0, bar: 1 };
     let mut t = Tally {
         hits: 0,
         run: 0,
         longest: 0,
     };
-    let mut scores = [0u64; 4];
-    let mut leader = Leader { winner: 0, bar: 1 };
-    let mut g = [SILENT; 4];
+    let mut c = Candidates {
+        symbols: 0,
+        keys: 0,
+        bounds: 0,
+    };
     let mut i: usize = 0;
     while i < s.len() {
-        let x = symbol(s[i]);
-        say_all(&mut g, f, i);
-        let winner = leader.winner;
-        t = count(t, g[winner], x);
-        leader = lead(&mut scores, &g, leader, x);
-        f = slide_all(&mut k0, &mut k1, &mut k2, &mut k3, s, i, k, f);
+        let x = wide(s[i]);
+        let xs = spread(x as u64);
+        let part = taking(i);
+        let heard = ask(c, x, xs, part, &cnt, &latest, k);
+        let asked = heard.candidates;
+        let alike = heard.alike;
+        let masks = tell(heard.right, part, i);
+        t = count(t, verdict_of(masks, leader.winner), RIGHT);
+        leader = score(&mut scores, masks, leader);
+        let gone = leave_all(&mut cnt, s, i);
+        let key = enter(&mut cnt, &mut latest, x, i);
+        c = advance(asked, alike, xs, gone, key);
         i += 1;
     }
     Counts {

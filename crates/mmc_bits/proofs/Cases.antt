@@ -1,42 +1,39 @@
 -- The cases of the definitions, one law for each. Assumes nothing.
-use Prim.Native.Nat.{ℕ, zero, suc, _+_, _≤_, _<_}
+use Prim.Native.Nat.{ℕ, _+_, _≤_, _<_}
 use mathlib.Core.Path.{_≡_, refl}
-use mathlib.Core.List.{List}
+use mathlib.Core.Bool.{Bool, true, false, cond}
 use native.Mathlib.Omega.{arith}
-use native.Mathlib.Nat.{add-zero}
-use lib.ListN.{getD}
+use lib.Dec.{ltb}
 use borrow.Author.Tests.{lt-ltb, le-ltb, eq-eqb, ne-eqb}
-use Rattle.race.specs.inner.Held.{silence}
+use Rattle.race.specs.Race.{silent, says}
+use Rattle.capture.specs.Bits.{one}
 use Rattle.mmc_bits.specs.Guesses.{verdict}
-use Rattle.mmc_bits.specs.inner.Steps.{spoken, heeded, bumped, kept}
+use Rattle.mmc_bits.specs.inner.Steps.{lean, bumped, kept}
+
+pub one-le : (t : Bool) → one t ≤ 1
+one-le true = omega arith
+one-le false = omega arith
 
 module _ (z o : ℕ) where
-  pub verdict-none : z + o ≡ 0 → silence ≡ spoken (verdict z o)
+  pub lean-zero : o < z → 1 ≡ lean z o
+  unfolding lean
+  lean-zero l = rw (lt-ltb o z l) refl
+
+  pub lean-one : z ≤ o → 0 ≡ lean z o
+  unfolding lean
+  lean-one l = rw (le-ltb o z l) refl
+
+  pub lean-le : lean z o ≤ 1
+  unfolding lean
+  lean-le = one-le (ltb o z)
+
+  pub verdict-none : z + o ≡ 0 → verdict z o ≡ silent
   unfolding verdict
   verdict-none e = rw (eq-eqb (z + o) 0 e) refl
 
-  pub verdict-zero : (z + o ≡ 0 → ⊥) → o < z → 0 ≡ spoken (verdict z o)
+  pub verdict-some : 0 < z + o → verdict z o ≡ says (cond (ltb o z) 0 1)
   unfolding verdict
-  verdict-zero n l = rw (ne-eqb (z + o) 0 n, lt-ltb o z l) refl
-
-  pub verdict-one : (z + o ≡ 0 → ⊥) → z ≤ o → 1 ≡ spoken (verdict z o)
-  unfolding verdict
-  verdict-one n l = rw (ne-eqb (z + o) 0 n, le-ltb o z l) refl
-
--- the counter of a bit, of the two that stand at `at`
-pub of-bit-fits : (xs : List ℕ) (at bit n : ℕ) → bit < 2 → getD xs at 0 + getD xs (at + 1) 0 + 1 < n → getD xs (at + bit) 0 + 1 < n
-of-bit-fits xs at zero n h l = rw (add-zero at) (omega arith)
-of-bit-fits xs at (suc zero) n h l = omega arith
-of-bit-fits xs at (suc (suc bit)) n h l = absurd (omega arith)
-
-module _ (u v : ℕ) where
-  pub heeded-silent : u ≡ silence → silence ≡ heeded u v
-  unfolding heeded
-  heeded-silent e = rw (eq-eqb u silence e) refl
-
-  pub heeded-own : (u ≡ silence → ⊥) → v ≡ heeded u v
-  unfolding heeded
-  heeded-own n = rw (ne-eqb u silence n) refl
+  verdict-some l = rw (ne-eqb (z + o) 0 (λ e. omega arith)) refl
 
 module _ (cap m n : ℕ) where
   pub bumped-first : m ≡ 0 → n < cap → 1 ≡ bumped cap m n

@@ -25,7 +25,7 @@ unfolding context before
 rolled b i r x e f = omega arith
 
 -- a shorter context is a longer one's low bits
-context-low : (n L : ℕ) (b : List ℕ) (i : ℕ) → L ≤ n → context n b i % 2 ^ L ≡ context L b i
+pub context-low : (n L : ℕ) (b : List ℕ) (i : ℕ) → L ≤ n → context n b i % 2 ^ L ≡ context L b i
 unfolding context
 context-low n L b i h = let e : n - L + L ≡ n = omega arith in rw e at (mod-mod-pow (before b i) (n - L) L)
 

@@ -1,5 +1,5 @@
 -- One place more: what it does to the counts of pairs, over any level and any cap. Assumes nothing.
-use Prim.Native.Nat.{ℕ, zero, suc, _+_, _≤_, _<_}
+use Prim.Native.Nat.{ℕ, zero, suc, _≤_, _<_}
 use mathlib.Core.Path.{_≡_, refl, sym, ap, _∙_}
 use mathlib.Core.Bool.{Bool, true, false, _&&_, and-false, and-true}
 use mathlib.Core.List.{List}
@@ -10,6 +10,7 @@ use Rattle.capture.specs.Bits.{one}
 use Rattle.mmc_bits.specs.inner.Steps.{distinct}
 use Rattle.mmc_bits.specs.Counters.{pair, places, occurs, fresh, ahead, counter}
 use Rattle.race.proofs.Cases.{tested}
+use Rattle.mmc_bits.proofs.Cases.{one-le}
 
 pub places-in : (p : ℕ → Bool) (from i : ℕ) → from ≤ i → p i ≡ true → places p from (suc i) ≡ suc (places p from i)
 unfolding places
@@ -28,10 +29,6 @@ pub places-more : (p : ℕ → Bool) (from i : ℕ) → places p from i ≤ plac
 unfolding places
 places-more p from i = omega arith
 
-pub one-le : (t : Bool) → one t ≤ 1
-one-le true = omega arith
-one-le false = omega arith
-
 pub places-le : (p : ℕ → Bool) (from i : ℕ) → places p from i ≤ i
 unfolding places
 places-le p from zero = omega arith
@@ -43,19 +40,6 @@ and-one true true true = omega arith
 and-one true true false = omega arith
 and-one true false t = omega arith
 and-one false s t = omega arith
-
-and-both : (r s t : Bool) → (s && t) ≡ false → one (r && s) + one (r && t) ≤ 1
-and-both true true true e = omega (arith, ap one e)
-and-both true true false e = omega arith
-and-both true false true e = omega arith
-and-both true false false e = omega arith
-and-both false s t e = omega arith
-
--- two tests that no place passes both
-pub places-both : (p q : ℕ → Bool) → ((j : ℕ) → (p j && q j) ≡ false) → (from i : ℕ) → places p from i + places q from i ≤ i
-unfolding places
-places-both p q e from zero = omega arith
-places-both p q e from (suc i) = omega (arith, places-both p q e from i, and-both (leb from i) (p i) (q i) (e i))
 
 module _ (L : ℕ) (b : List ℕ) where
   pub occurs-same : (k i : ℕ) → L ≤ i → pair L b i ≡ k → occurs L b k (suc i) ≡ suc (occurs L b k i)
@@ -77,15 +61,6 @@ module _ (L : ℕ) (b : List ℕ) where
   pub occurs-le : (k i : ℕ) → occurs L b k i ≤ i
   unfolding occurs
   occurs-le k i = places-le _ L i
-
-  apart : (k m j : ℕ) → (k ≡ m → ⊥) → (eqb (pair L b j) k && eqb (pair L b j) m) ≡ false
-  apart k m j n = tested (eqb (pair L b j) k)
-      (λ t. rw (ne-eqb (pair L b j) m (λ e. n (sym (eqb-true _ _ t) ∙ e)), and-false) refl)
-      (λ t. rw t refl)
-
-  pub occurs-both : (k m : ℕ) → (k ≡ m → ⊥) → (i : ℕ) → occurs L b k i + occurs L b m i ≤ i
-  unfolding occurs
-  occurs-both k m n i = places-both (λ j. eqb (pair L b j) k) (λ j. eqb (pair L b j) m) (λ j. apart k m j n) L i
 
   pub distinct-new : (i : ℕ) → L ≤ i → occurs L b (pair L b i) i ≡ 0 → distinct L b (suc i) ≡ suc (distinct L b i)
   unfolding distinct fresh
@@ -160,13 +135,9 @@ module _ (cap L : ℕ) (b : List ℕ) where
   unfolding counter
   counter-le k i = tested (ltb (ahead L b k i) cap) (λ t. rw t (occurs-le L b k i)) (λ t. rw t (omega arith))
 
-  counter-under : (k i : ℕ) → counter cap L b k i ≤ occurs L b k i
+  pub counter-under : (k i : ℕ) → counter cap L b k i ≤ occurs L b k i
   unfolding counter
   counter-under k i = tested (ltb (ahead L b k i) cap) (λ t. rw t (omega arith)) (λ t. rw t (omega arith))
-
-  -- the counters of two pairs together
-  pub counters-le : (k m i : ℕ) → (k ≡ m → ⊥) → counter cap L b k i + counter cap L b m i ≤ i
-  counters-le k m i n = omega (arith, counter-under k i, counter-under m i, occurs-both L b k m n i)
 
   -- a pair that is not at place i keeps its counter
   pub counter-other : (k i : ℕ) → (pair L b i ≡ k → ⊥) → counter cap L b k (suc i) ≡ counter cap L b k i

@@ -3,8 +3,12 @@ pub mod Counting
 pub mod Room
 pub mod Tables
 pub mod Parts
-pub mod Guessing
 pub mod Contexts
+pub mod Shorter
+pub mod Ones
+pub mod Guessing
+pub mod Seeking
+pub mod Masking
 pub mod Stepping
 pub mod Placing
 pub mod Narrow

@@ -5,8 +5,8 @@ use mathlib.Core.List.{List, _++_, append-assoc, append-nil}
 use native.Mathlib.Omega.{arith}
 use native.Mathlib.Nat.{zero-add, suc-add, add-suc}
 use native.Mathlib.Numerals.{add-one}
-use lib.ListN.{getD, set, length, take, drop, replicate, length-append, replicate-append-replicate}
-use lib.Seq.{take-at, drop-at}
+use lib.ListN.{getD, set, length, take, drop, replicate, length-append, replicate-append-replicate, List·getD-append}
+use lib.Seq.{take-at, drop-at, getD-append-add}
 use lib.Pow.{pow-pos}
 use lib.Dec.{ltb, eqb}
 use borrow.Rule.Slice.PartMut.{putMid}
@@ -262,15 +262,35 @@ module _ (cap n l : ℕ) (b : List ℕ) (i : ℕ) (rest s : List ℕ) (w : ℕ) 
       (part cap (suc l) b (suc i))
       ∙ mixed-close cap n l b i rest)
 
+-- the levels before level l + 1, that level, and those behind it
+span-open : (cap n l : ℕ) (b : List ℕ) (i : ℕ) → l < n
+    → span cap 1 n b i ≡ span cap 1 l b i ++ (part cap (suc l) b i ++ span cap (suc (suc l)) (n - suc l) b i)
+span-open cap n l b i h =
+    let e : n - l + l ≡ n = omega arith in
+    let f : n - l ≡ suc (n - suc l) = omega arith in
+    sym (rw e at (span-join cap (n - l) l b i))
+    ∙ ap (λ (m : ℕ). span cap 1 l b i ++ span cap (suc l) m b i) f
+    ∙ ap (λ (t : List ℕ). span cap 1 l b i ++ t) (span-first cap (suc l) (n - suc l) b i)
+
 -- "In the lent slice level L starts at 2^(L+1) - 4 and has 2^(L+1) counters", for L = l + 1
 pub level-at : (cap n l : ℕ) (b : List ℕ) (i : ℕ) → l < n → take (2 ^ suc (suc l)) (drop (2 ^ suc (suc l) - 4) (span cap 1 n b i)) ≡ part cap (suc l) b i
 level-at cap n l b i h =
-    let e : n - l + l ≡ n = omega arith in
-    let f : n - l ≡ suc (n - suc l) = omega arith in
-    let whole : span cap 1 n b i ≡ span cap 1 l b i ++ (part cap (suc l) b i ++ span cap (suc (suc l)) (n - suc l) b i) =
-    sym (rw e at (span-join cap (n - l) l b i))
-    ∙ ap (λ (m : ℕ). span cap 1 l b i ++ span cap (suc l) m b i) f
-    ∙ ap (λ (t : List ℕ). span cap 1 l b i ++ t) (span-first cap (suc l) (n - suc l) b i) in
-    rw whole
+    rw (span-open cap n l b i h)
     (mid-is (span cap 1 l b i) (part cap (suc l) b i) (span cap (suc (suc l)) (n - suc l) b i) (2 ^ suc (suc l) - 4) (2 ^ suc (suc l))
     (omega (arith, length-span cap l b i)) (length-part cap (suc l) b i))
+
+-- its counter k, read in place
+pub level-read : (cap n l : ℕ) (b : List ℕ) (i : ℕ) (rest s : List ℕ) (w : ℕ) → l < n → w ≡ 2 ^ suc l → s ≡ span cap 1 n b i ++ rest
+    → (k : ℕ) → k < w * 2 → getD s (w * 2 - 4 + k) 0 ≡ counter cap (suc l) b k i
+level-read cap n l b i rest s w h e m k g =
+    let at : w * 2 - 4 ≡ length (span cap 1 l b i) = omega (arith, length-span cap l b i) in
+    rw (
+      m,
+      span-open cap n l b i h,
+      append-assoc (span cap 1 l b i) (part cap (suc l) b i ++ span cap (suc (suc l)) (n - suc l) b i) rest,
+      at,
+      getD-append-add (span cap 1 l b i) _ k 0,
+      append-assoc (part cap (suc l) b i) (span cap (suc (suc l)) (n - suc l) b i) rest,
+      List·getD-append (part cap (suc l) b i) (span cap (suc (suc l)) (n - suc l) b i ++ rest) 0 k (omega (arith, length-part cap (suc l) b i)),
+    )
+    (getD-part cap (suc l) b i k (omega arith))

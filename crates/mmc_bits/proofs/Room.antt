@@ -7,10 +7,15 @@ use native.Mathlib.Nat.{mod-lt, le-trans}
 use lib.Dec.{leb, eqb}
 use lib.Pow.{pow-pos, pow-mono}
 use borrow.Author.Tests.{eqb-true, eqb-false, leb-true, leb-false}
+use Rattle.mmc_bits.specs.Levels.{levels, cap}
 use Rattle.mmc_bits.specs.inner.Steps.{Bits, distinct}
 use Rattle.mmc_bits.specs.Counters.{before, context, pair, occurs, counter}
 use Rattle.race.proofs.Cases.{tested}
 use Rattle.mmc_bits.proofs.Counting.{occurs-same, occurs-more, distinct-new, distinct-old, distinct-early, ahead-lt, counter-none, counter-low}
+
+-- the levels below the last have at most as many pairs as the cap
+pub room : 2 ^ levels ≤ cap
+room = omega arith
 
 -- of the pairs below n, those that occurred before place i
 unfoldable pub seen : ℕ → List ℕ → ℕ → ℕ → ℕ

@@ -1,11 +1,10 @@
 -- The first n values of a function, as a list. Assumes nothing.
-use Prim.Native.Nat.{ℕ, zero, suc, _+_, _≤_, _<_}
+use Prim.Native.Nat.{ℕ, zero, suc, _<_}
 use mathlib.Core.Path.{_≡_, refl, sym, ap, _∙_}
-use mathlib.Core.List.{List, [], _∷_, _++_, append-assoc, append-nil}
+use mathlib.Core.List.{List, [], _∷_, _++_}
 use native.Mathlib.Omega.{arith}
-use native.Mathlib.Nat.{zero-add, suc-add}
-use lib.ListN.{getD, set, length, drop, replicate, length-set}
-use lib.Seq.{ext-getD, getD-set-same, getD-set-other, set-at, append-snoc, drop-cons}
+use lib.ListN.{set, replicate, length-set}
+use lib.Seq.{ext-getD, getD-set-same, getD-set-other}
 use lib.Dec.{eqb}
 use borrow.Author.Tests.{eqb-true, eqb-false}
 use Rattle.capture.specs.Bits.{table}
@@ -36,18 +35,3 @@ pub table-zeros : (n : ℕ) → table n (λ _. 0) ≡ replicate n 0
 unfolding table
 table-zeros zero = refl
 table-zeros (suc n) = rw (table-zeros n) (sym (replicate-more n 0))
-
--- where all further values are the same
-pub table-rest : (m i v : ℕ) (f : ℕ → ℕ) → ((n : ℕ) → i ≤ n → f n ≡ v) → table i f ++ replicate m v ≡ table (m + i) f
-unfolding table
-table-rest zero i v f e = rw (zero-add i) (append-nil (table i f))
-table-rest (suc m) i v f e =
-    ap (λ (t : List ℕ). table i f ++ t) (replicate-more m v) ∙ sym (append-assoc (table i f) (replicate m v) (v ∷ []))
-    ∙ rw (suc-add m i, table-rest m i v f e, e (m + i) (omega arith)) refl
-
--- a list that is written from the left
-pub table-fill : (n : ℕ) (f : ℕ → ℕ) (d : List ℕ) → n < length d → set (table n f ++ drop n d) n (f n) ≡ table (suc n) f ++ drop (suc n) d
-unfolding table
-table-fill n f d h =
-    rw (drop-cons d n 0 h)
-    (set-at (table n f) (getD d n 0) (drop (suc n) d) (f n) n (table-length n f) ∙ sym (append-snoc (table n f) (f n) (drop (suc n) d)))

@@ -1,6 +1,6 @@
 -- The run from place to place: what the code holds before place i, and how a place moves it. Assumes nothing.
 use Prim.Native.Nat.{ℕ, suc, _+_, _*_, _-_, _%_, _≤_, _<_, min}
-use mathlib.Core.Path.{_≡_, refl, sym, ap, _∙_}
+use mathlib.Core.Path.{_≡_, refl, sym, ap, _∙_, subst}
 use mathlib.Core.List.{List, _++_}
 use native.Mathlib.Omega.{arith}
 use native.Mathlib.Nat.{lt-of-lt-of-le}
@@ -15,11 +15,14 @@ use Rattle.capture.specs.inner.Spots.{spotOf, nextSpot, spotBit, Source}
 use Rattle.capture.specs.declared.Spot.{Spot}
 use Rattle.capture.proofs.Limits.{source-short}
 use Rattle.capture.proofs.Walking.{spot-bit, spot-next, spot-after, spot-inside}
-use Rattle.race.specs.Race.{silent, judge, scored, sample}
-use Rattle.race.specs.inner.Held.{silence, heardFrom, after, tallied, counterLimit, Countable, Led, Leadable}
-use Rattle.race.specs.declared.Leader.{Leader}
-use Rattle.race.specs.declared.Tally.{Tally}
-use Rattle.race.proofs.Step.{Raced, race-starts, race-length, race-winner, race-countable, race-leadable, race-idle, race-step}
+use Rattle.race.specs.Race.{Guess, judge, sample}
+use Rattle.race.specs.inner.Held.{counterLimit}
+use Rattle.verdicts.specs.declared.Masks.{Masks}
+use Rattle.verdicts.specs.declared.Race.{Race}
+use Rattle.verdicts.specs.inner.Steps.{started, Steppable, Stepped}
+use Rattle.verdicts.specs.inner.Told.{Told}
+use Rattle.verdicts.specs.inner.Racing.{Racing}
+use Rattle.verdicts.proofs.Racing.{racing-starts, racing-length, racing-ready, racing-idle, racing-next}
 use Rattle.mmc_bits.specs.Levels.{levels, cap, firstPlace}
 use Rattle.mmc_bits.specs.Counters.{context}
 use Rattle.mmc_bits.specs.Guesses.{guess}
@@ -32,7 +35,7 @@ use Rattle.mmc_bits.proofs.Counting.{distinct-early}
 use Rattle.mmc_bits.proofs.Room.{context-lt}
 use Rattle.mmc_bits.proofs.Contexts.{context-none, rolled}
 use Rattle.mmc_bits.proofs.Parts.{span-cleared, behind-levels, own-rest}
-use Rattle.mmc_bits.proofs.Guessing.{length-guesses, guess-late, guesses-heard, guesses-quiet}
+use Rattle.mmc_bits.proofs.Guessing.{guess-late}
 
 are-bits : (symbols : List ℕ) (width n : ℕ) → Bits (bitsOf symbols width n)
 are-bits symbols width n j = tested (ltb j n)
@@ -42,51 +45,40 @@ are-bits symbols width n j = tested (ltb j n)
 -- ---- what the code holds before place i
 
 -- of the race: its places before i are past
-abbrev pub RacedTo : List ℕ → ℕ → ℕ → ℕ → Leader → List ℕ → Tally → Type 0
-RacedTo symbols width n i leader scores t =
-    Raced levels firstPlace (guess cap (bitsOf symbols width n)) (sample (bitsOf symbols width n)) (i - firstPlace) leader scores t
+abbrev pub RacedTo : List ℕ → ℕ → ℕ → ℕ → Race → List ℕ → Type 0
+RacedTo symbols width n i race up =
+    Racing levels firstPlace (guess cap (bitsOf symbols width n)) (sample (bitsOf symbols width n)) (i - firstPlace) race up
 
-pub record Running (symbols : List ℕ) (width n : ℕ) (counters₀ counters gs scores : List ℕ) (leader : Leader) (t : Tally) (spot : Spot)
-    (recent stored i : ℕ) : Type 0 where
+pub record Running (symbols : List ℕ) (width n : ℕ) (counters₀ counters up : List ℕ) (race : Race) (spot : Spot) (recent stored i : ℕ) : Type 0 where
   pub some : i ≤ n
   pub spot-is : spot ≡ spotOf width i
   pub recent-is : recent ≡ context levels (bitsOf symbols width n) i
   pub stored-is : stored ≡ min (distinct levels (bitsOf symbols width n) i) cap
   pub counted : counters ≡ span cap 1 levels (bitsOf symbols width n) i ++ drop (size levels) counters₀
-  pub quiet : drop i gs ≡ replicate (levels - i) silence
-  pub full : length gs ≡ levels
-  pub raced : RacedTo symbols width n i leader scores t
-
-same-tally : {a b c x y z : ℕ} → a ≡ x → b ≡ y → c ≡ z
-    → _≡_ {A = Tally} (record { hits = a; run = b; longest = c }) (record { hits = x; run = y; longest = z })
-same-tally e f g = cc
+  pub raced : RacedTo symbols width n i race up
 
 module _ {symbols : List ℕ} {width n : ℕ} (S : Source symbols width n) where
   -- from cleared counters
-  pub running-starts : {counters : List ℕ} {spot : Spot} → counters ≡ replicate (size levels) 0 ++ drop (size levels) counters → spot ≡ spotOf width 0
-      → Running symbols width n counters counters (replicate levels silence) (replicate levels 0) (record { winner = 0; bar = 1 })
-      (record { hits = 0; run = 0; longest = 0 }) spot 0 0 0
-  running-starts {counters} e f =
+  pub running-starts : {counters : List ℕ} {race : Race} {spot : Spot} → counters ≡ replicate (size levels) 0 ++ drop (size levels) counters
+      → race ≡ started → spot ≡ spotOf width 0 → Running symbols width n counters counters (replicate levels 0) race spot 0 0 0
+  running-starts {counters} e r f =
       record {
         some = omega arith;
         spot-is = f;
         recent-is = context-none (bitsOf symbols width n);
         stored-is = omega (arith, distinct-early levels (bitsOf symbols width n) 0 (omega arith));
         counted = rw (span-cleared cap levels (bitsOf symbols width n)) e;
-        quiet = refl;
-        full = refl;
-        raced = race-starts levels firstPlace (guess cap (bitsOf symbols width n)) (sample (bitsOf symbols width n)) (omega arith);
+        raced = rw r (racing-starts levels firstPlace (guess cap (bitsOf symbols width n)) (sample (bitsOf symbols width n)) (omega arith) (omega arith));
       }
 
-  module _ {counters₀ counters gs scores : List ℕ} {leader : Leader} {t : Tally} {spot : Spot} {recent stored i : ℕ}
-      (R : Running symbols width n counters₀ counters gs scores leader t spot recent stored i) where
+  module _ {counters₀ counters up : List ℕ} {race : Race} {spot : Spot} {recent stored i : ℕ}
+      (R : Running symbols width n counters₀ counters up race spot recent stored i) where
     -- ---- at the end
 
-    pub running-ends : n ≤ i → t ≡ tallyOf levels cap (bitsOf symbols width n)
+    pub running-ends : n ≤ i → race .tally ≡ tallyOf levels cap (bitsOf symbols width n)
     running-ends h =
         let e : i - firstPlace ≡ length (bitsOf symbols width n) - firstPlace = omega (arith, R .some, bits-length symbols width n) in
-        let r = rw e at (R .raced) in
-        same-tally (r .hits-are) (r .run-is) (r .longest-is)
+        (rw e at (R .raced)) .tally-is
 
     pub running-leaves : n ≤ i → counters ≡ final levels cap (bitsOf symbols width n) counters₀
     running-leaves h =
@@ -104,22 +96,21 @@ module _ {symbols : List ℕ} {width n : ℕ} (S : Source symbols width n) where
 
 -- ---- at a place: the bit there has been read
 
-pub record Place (symbols : List ℕ) (width n : ℕ) (counters₀ counters gs scores : List ℕ) (leader : Leader) (t : Tally) (spot : Spot)
-    (recent stored i x : ℕ) : Type 0 where
+pub record Place (symbols : List ℕ) (width n : ℕ) (counters₀ counters up : List ℕ) (race : Race) (spot : Spot) (recent stored i x : ℕ) : Type 0 where
   pub source : Source symbols width n
-  pub running : Running symbols width n counters₀ counters gs scores leader t spot recent stored i
+  pub running : Running symbols width n counters₀ counters up race spot recent stored i
   pub inside : i < n
   pub read : x ≡ spotBit symbols spot
 
-module _ {symbols : List ℕ} {width n : ℕ} {counters₀ counters gs scores : List ℕ} {leader : Leader} {t : Tally} {spot : Spot}
-    {recent stored i x : ℕ} (P : Place symbols width n counters₀ counters gs scores leader t spot recent stored i x) where
+module _ {symbols : List ℕ} {width n : ℕ} {counters₀ counters up : List ℕ} {race : Race} {spot : Spot}
+    {recent stored i x : ℕ} (P : Place symbols width n counters₀ counters up race spot recent stored i x) where
   bit-here : x ≡ getD (bitsOf symbols width n) i 0
   bit-here = P .read ∙ ap (spotBit symbols) (P .running .spot-is) ∙ spot-bit symbols width i ∙ sym (bits-at symbols width n i (P .inside))
 
   bit-low : x < 2
   bit-low = omega (arith, bit-here, are-bits symbols width n i)
 
-  pub place-before : Before (bitsOf symbols width n) i recent x stored counters gs
+  pub place-before : Before (bitsOf symbols width n) i recent x stored counters
   place-before =
       record {
         stands = record {
@@ -131,8 +122,6 @@ module _ {symbols : List ℕ} {width n : ℕ} {counters₀ counters gs scores : 
         };
         counted = own-rest cap levels (bitsOf symbols width n) i (drop (size levels) counters₀) counters (P .running .counted);
         stored-is = P .running .stored-is;
-        quiet = P .running .quiet;
-        full = P .running .full;
       }
 
   pub recent-fits : recent * 2 + x < 4294967296
@@ -141,53 +130,40 @@ module _ {symbols : List ℕ} {width n : ℕ} {counters₀ counters gs scores : 
   pub place-spot : (0 < width) × (spot .at < symbolLimit)
   place-spot = (P .source .some, lt-of-lt-of-le (spot-reads (P .source) (P .running) (P .inside) .0) (P .source .short))
 
-  pub scores-full : length scores ≡ levels
-  scores-full = race-length (P .running .raced)
-
-  pub winner-low : leader .winner < levels
-  winner-low = race-winner (P .running .raced) (omega arith)
+  pub up-full : length up ≡ levels
+  up-full = racing-length (P .running .raced)
 
   few : i - firstPlace < counterLimit
   few = omega (arith, P .inside, source-short (P .source))
 
-  pub can-count : Countable t x
-  can-count = race-countable (P .running .raced) x (omega (arith, bit-low)) few
-
   -- and the levels have passed it
-  module _ {stored′ : ℕ} {counters′ gs′ : List ℕ} (A : After (bitsOf symbols width n) i stored′ counters counters′ gs′) where
-    pub guesses-full : length gs′ ≡ levels
-    guesses-full = ap length (A .said) ∙ length-guesses cap levels (bitsOf symbols width n) i
-
-    pub can-lead : Leadable scores gs′ leader x
-    can-lead = race-leadable (P .running .raced) x gs′ (omega (arith, bit-low)) few (omega arith) guesses-full
-
-    heard-here : (j : ℕ) → j < levels → heardFrom gs′ j ≡ guess cap (bitsOf symbols width n) i j
-    heard-here j l = ap (λ (hs : List ℕ). heardFrom hs j) (A .said) ∙ guesses-heard cap levels (bitsOf symbols width n) i j l
+  module _ {stored′ : ℕ} {masks : Masks} {counters′ : List ℕ} (A : After (bitsOf symbols width n) i stored′ masks counters counters′) where
+    pub can-step : Steppable race up masks 65535
+    can-step = racing-ready (P .running .raced) few refl (A .told)
 
     -- the race goes on; before the first predicted place every level is silent
-    module _ {leader′ : Leader} {scores′ : List ℕ} {t′ : Tally}
-        (L : Led (scored (heardFrom gs′) x (after (leader .winner) scores) (length gs′)) leader′ scores′)
-        (te : t′ ≡ tallied (judge (heardFrom gs′ (leader .winner)) x) t) where
-      early : i < firstPlace → RacedTo symbols width n (i + 1) leader′ scores′ t′
+    module _ {race′ : Race} {up′ : List ℕ} (S : Stepped race up masks 65535 race′ up′) where
+      early : i < firstPlace → RacedTo symbols width n (i + 1) race′ up′
       early l =
           let e : i - firstPlace ≡ i + 1 - firstPlace = omega arith in
-          let quiet : (j : ℕ) → j < levels → heardFrom gs′ j ≡ silent =
-          λ j k. heard-here j k ∙ guess-late cap (bitsOf symbols width n) i j (omega arith) in
-          rw e at (race-idle (P .running .raced) x gs′ (omega arith) guesses-full quiet L te)
+          rw e at
+          (racing-idle (P .running .raced) S (A .told)
+          (λ j k. ap (λ (g : Guess). judge g (getD (bitsOf symbols width n) i 0)) (guess-late cap (bitsOf symbols width n) i j (omega arith))))
 
-      predicted : firstPlace ≤ i → RacedTo symbols width n (i + 1) leader′ scores′ t′
+      predicted : firstPlace ≤ i → RacedTo symbols width n (i + 1) race′ up′
       predicted l =
           let e : i - firstPlace + 1 ≡ i + 1 - firstPlace = omega arith in
           let g : i ≡ firstPlace + (i - firstPlace) = omega arith in
-          rw e at
-          (race-step (P .running .raced) x gs′ (omega arith) guesses-full (bit-here ∙ ap (sample (bitsOf symbols width n)) g)
-          (λ j k. heard-here j k ∙ ap (λ (p : ℕ). guess cap (bitsOf symbols width n) p j) g) L te)
+          let b = bitsOf symbols width n in
+          let t : Told levels (λ j. judge (guess cap b (firstPlace + (i - firstPlace)) j) (sample b (firstPlace + (i - firstPlace)))) masks =
+          subst (λ (p : ℕ). Told levels (λ j. judge (guess cap b p j) (sample b p)) masks) g (A .told) in
+          rw e at (racing-next (P .running .raced) S t)
 
-      raced-next : RacedTo symbols width n (i + 1) leader′ scores′ t′
+      raced-next : RacedTo symbols width n (i + 1) race′ up′
       raced-next = tested (ltb i firstPlace) (λ q. early (ltb-true _ _ q)) (λ q. predicted (ltb-false _ _ q))
 
       pub running-next : {spot′ : Spot} → spot′ ≡ nextSpot width spot
-          → Running symbols width n counters₀ counters′ gs′ scores′ leader′ t′ spot′ ((recent * 2 + x) % 65536) stored′ (i + 1)
+          → Running symbols width n counters₀ counters′ up′ race′ spot′ ((recent * 2 + x) % 65536) stored′ (i + 1)
       running-next q =
           record {
             some = omega (arith, P .inside);
@@ -198,8 +174,6 @@ module _ {symbols : List ℕ} {width n : ℕ} {counters₀ counters gs scores : 
                 (A .counted
                 ∙ ap (λ (u : List ℕ). span cap 1 levels (bitsOf symbols width n) (suc i) ++ u)
                 (behind-levels cap levels (bitsOf symbols width n) i (drop (size levels) counters₀) counters (P .running .counted)));
-            quiet = rw (A .said, add-one i) (guesses-quiet cap levels (bitsOf symbols width n) i);
-            full = guesses-full;
             raced = raced-next;
           }
 

@@ -9,7 +9,7 @@ use lib.ListN.{length, getD, replicate, take, drop, length-replicate}
 use lib.Seq.{length-take-le, length-front, drop-append-add, drop-drop}
 use borrow.Author.Tests.{le-ltb}
 use Rattle.capture.specs.Limit.{symbolLimit}
-use Rattle.race.specs.Race.{silent, judge, scored, sample}
+use Rattle.race.specs.Race.{none, judge, scored, sample}
 use Rattle.race.specs.inner.Held.{heard, heardFrom, after, tallied, counterLimit, Countable, Led, Leadable}
 use Rattle.race.specs.declared.Leader.{Leader}
 use Rattle.race.specs.declared.Tally.{Tally}
@@ -98,11 +98,11 @@ module _ {n cap : ℕ} {s space es nodes scores : List ℕ} {leader : Leader} {t
       pub leadable : Leadable scores gs leader (getD s i 0)
       leadable = race-leadable (r .raced) (getD s i 0) gs (r .bytes i) few (r .some) (said .full)
 
-      says : (j : ℕ) → j < n → heardFrom gs j ≡ guess cap s i j
-      says j h = ap heard (said .each j h) ∙ heard-guess cap s i j
+      told : (j : ℕ) → j < n → judge (heardFrom gs j) (getD s i 0) ≡ judge (guess cap s i j) (getD s i 0)
+      told j h = ap (λ g. judge g (getD s i 0)) (ap heard (said .each j h) ∙ heard-guess cap s i j)
 
-      silent-before : i < firstPlace → (j : ℕ) → j < n → heardFrom gs j ≡ silent
-      silent-before l j h = ap heard (said .each j h ∙ quiet-guess cap s i j (omega arith))
+      silent-before : i < firstPlace → (j : ℕ) → j < n → judge (heardFrom gs j) (getD s i 0) ≡ none
+      silent-before l j h = ap (λ g. judge (heard g) (getD s i 0)) (said .each j h ∙ quiet-guess cap s i j (omega arith))
 
       module _ {leader′ : Leader} {scores′ : List ℕ} {tally′ : Tally}
           (L : Led (scored (heardFrom gs) (getD s i 0) (after (leader .winner) scores) (length gs)) leader′ scores′)
@@ -117,7 +117,7 @@ module _ {n cap : ℕ} {s space es nodes scores : List ℕ} {leader : Leader} {t
             go (no f) =
                 let e : i + 1 - firstPlace ≡ i - firstPlace + 1 = omega arith in
                 let p : firstPlace + (i - firstPlace) ≡ i = omega arith in
-                rw e (race-step (r .raced) (getD s i 0) gs (r .some) (said .full) (rw p) (rw p says) L te)
+                rw e (race-step (r .raced) (getD s i 0) gs (r .some) (said .full) (rw p told) L te)
 
         pub run-next : {space′ es′ nodes′ : List ℕ} → Stands n cap s (i + 1) es′ nodes′ space′ →
             Run n cap s space′ es′ nodes′ scores′ leader′ tally′ (i + 1)

@@ -12,7 +12,7 @@ use Rattle.alphabet.specs.declared.Alphabet.{Alphabet}
 use Rattle.alphabet.proofs.Alphabets.{Bytes, dense-below}
 use Rattle.capture.proofs.Limits.{limit-small}
 use Rattle.alphabet.proofs.Distinct.{distinct-le}
-use Rattle.mcw_symbols.specs.inner.Keys.{Samples}
+use Rattle.mcw_symbols.specs.inner.Samples.{Samples}
 
 pub dense-length : (s : List ℕ) → length (dense s) ≡ length s
 dense-length s = length-map s (firstSight s)

@@ -20,7 +20,7 @@ ghost use Prim.Native.Nat.{_≤_};
 ghost use lib.ListN.{length};
 ghost use Rattle.capture.specs.Limit.{symbolLimit};
 ghost use Rattle.mcw_bits.specs.inner.Counts.{countsOf};
-ghost use Rattle.mcw_symbols.specs.inner.Keys.{Samples};
+ghost use Rattle.mcw_symbols.specs.inner.Samples.{Samples};
 ghost use Rattle.multi_mcw.specs.Tracks.{literalNumber, mcwBits, mcwLiteral, mcwLiteralOutput};
 
 // Fewer samples are not run.

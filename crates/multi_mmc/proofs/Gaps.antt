@@ -30,7 +30,8 @@ use Rattle.mmc_bits.proofs.Counting.{
   counter-first,
   counter-full,
 }
-use Rattle.multi_mmc.proofs.Windows.{key, context-down, context-next, pair-is}
+use Rattle.mmc_bits.proofs.Shorter.{occurs-suffix}
+use Rattle.multi_mmc.proofs.Windows.{key, context-next, pair-is}
 
 -- ---- one place more, of the counters
 
@@ -76,16 +77,7 @@ distinct-up L s q (suc j) h = tested (eqb q (suc j))
 
 module _ (s : List ℕ) (bits : Bits s) where
   pub occurs-down : (L k x : ℕ) → x < 2 → (i : ℕ) → occurs (suc L) s (key s (suc L) k x) i ≤ occurs L s (key s L k x) i
-  occurs-down L k x h zero = omega (arith, occurs-early (suc L) s (key s (suc L) k x) 0 (omega arith))
-  occurs-down L k x h (suc i) = tested (ltb i (suc L))
-      (λ t. omega (arith, occurs-early (suc L) s (key s (suc L) k x) (suc i) (ltb-true _ _ t)))
-      (λ t. let l : suc L ≤ i = ltb-false _ _ t in
-      tested (eqb (pair (suc L) s i) (key s (suc L) k x))
-      (λ u. let e : pair (suc L) s i ≡ key s (suc L) k x = eqb-true _ _ u in
-      let c : context L s i ≡ context L s k = context-down s L i k (omega (arith, pair-is s (suc L) i, bits i)) in
-      let f : pair L s i ≡ key s L k x = omega (arith, pair-is s L i, pair-is s (suc L) i, bits i) in
-      omega (arith, occurs-down L k x h i, occurs-same (suc L) s (key s (suc L) k x) i l e, occurs-same L s (key s L k x) i (omega arith) f))
-      (λ u. omega (arith, occurs-down L k x h i, occurs-other (suc L) s (key s (suc L) k x) i (eqb-false _ _ u), occurs-more L s (key s L k x) i)))
+  occurs-down L k x h i = occurs-suffix L s bits k x h i
 
   -- what followed the pair c followed a pair that was there a place earlier
   occurs-next : (L c x : ℕ) → x < 2 → (i : ℕ) → occurs (suc L) s (c * 2 + x) (suc i) ≤ occurs L s c i

@@ -66,13 +66,17 @@ module _ (g : ℕ → Guess) (x : ℕ) (st : Standing) where
   scored-winner m p zero l = p
   scored-winner m p (suc j) l = settle-winner (judge (g j) x) (scored g x st j) j m l (scored-winner m p j (omega arith))
 
-  pub scored-ext : (g′ : ℕ → Guess) (m : ℕ) → ((j : ℕ) → j < m → g j ≡ g′ j) → scored g x st m ≡ scored g′ x st m
+  -- only the verdicts count: right, wrong or silent is all that a place needs of a guess
+  pub scored-alike : (g′ : ℕ → Guess) (x′ m : ℕ) → ((j : ℕ) → j < m → judge (g j) x ≡ judge (g′ j) x′) → scored g x st m ≡ scored g′ x′ st m
   unfolding scored
-  scored-ext g′ zero e = refl
-  scored-ext g′ (suc m) e = rw (e m (omega arith), scored-ext g′ m (λ j l. e j (omega arith)))
+  scored-alike g′ x′ zero e = refl
+  scored-alike g′ x′ (suc m) e = rw (e m (omega arith), scored-alike g′ x′ m (λ j l. e j (omega arith)))
+
+  pub scored-ext : (g′ : ℕ → Guess) (m : ℕ) → ((j : ℕ) → j < m → g j ≡ g′ j) → scored g x st m ≡ scored g′ x st m
+  scored-ext g′ m e = scored-alike g′ x m (λ j l. ap (λ (q : Guess). judge q x) (e j l))
 
   -- where all are silent, nothing changes
-  pub scored-silent : (m : ℕ) → ((j : ℕ) → j < m → g j ≡ silent) → scored g x st m ≡ st
+  pub scored-silent : (m : ℕ) → ((j : ℕ) → j < m → judge (g j) x ≡ none) → scored g x st m ≡ st
   unfolding scored
   scored-silent zero e = refl
   scored-silent (suc m) e = rw (e m (omega arith)) (scored-silent m (λ j l. e j (omega arith)))

@@ -14,7 +14,7 @@ use Rattle.race.specs.inner.Held.{counterLimit, heardFrom}
 use Rattle.mcw_bits.specs.inner.Ones.{AllOnes, Ring, majoritiesOf}
 use Rattle.mcw_bits.specs.inner.Say.{sayings}
 use Rattle.mcw_bits.specs.declared.Four.{Four}
-use Rattle.mcw_bits.proofs.Place.{RacedAt, mcw-starts, mcw-winner, mcw-scores, mcw-countable, mcw-leadable, mcw-step, mcw-counts}
+use Rattle.mcw_bits.proofs.Place.{same-verdict, RacedAt, mcw-starts, mcw-winner, mcw-scores, mcw-countable, mcw-leadable, mcw-step, mcw-counts}
 use Rattle.mcw_bits.proofs.Ones.{ring-start, ring-next, ones-start, ones-small, bits-symbols, votes-heard, all-roll, all-rolled}
 use Rattle.mcw_bits.proofs.Samples.{source-bits, spot-asks, spot-has, next-asks, spot-goes}
 use Rattle.mcw_bits.proofs.run.mcw_bits.Statement.{statement}
@@ -125,8 +125,8 @@ judged d =
     let v = told d in
     let a = head (read v) in
     let said = votes-heard (source-bits (start a .pre)) (a .loop .inv .3) (omega (arith, inside (turn (read v)))) in
-    mcw-step (a .loop .inv .4) (v .say-all .last .0) (ap length (saying v)) (bit (read v))
-    (λ j l. ap (λ (g : List ℕ). heardFrom g j) (saying v) ∙ said j l) (d .lead .ensures) (d .before .before .before .count .ensures)
+    mcw-step (a .loop .inv .4) (read v .bit-at .result) (v .say-all .last .0) (ap length (saying v))
+    (λ j l. same-verdict (ap (λ (g : List ℕ). heardFrom g j) (saying v) ∙ said j l) (bit (read v))) (d .lead .ensures) (d .before .before .before .count .ensures)
 
 roll-all-requires : tie.Need-roll-all-requires Inv-loop μ-loop
 roll-all-requires c κs =

@@ -1,105 +1,136 @@
--- `run::mcw_symbols` meets its contract. Before place i each window has the keys of its samples and the symbol with the largest, which is what the
--- definition says it says; the standing and the counts are those of the race over the places before i. Assumes nothing.
-use Prim.Native.Nat.{ℕ, _≤_, _<_, _+_, _-_}
-use mathlib.Core.Path.{_≡_, refl, sym, ap, _∙_}
-use mathlib.Core.List.{List}
+-- `run::mcw_symbols` meets its contract. Before place i the windows' counts, latest places and candidates are those of the samples before it, so each
+-- window tells its verdict on what comes; the standing and the counts are those of the race over the places before i. Assumes nothing.
+use Prim.Native.Nat.{_≤_, _<_, _-_}
 use native.Mathlib.Omega.{arith}
 use denote.Ref.{now}
 use lib.ListN.{length}
-use Rattle.race.specs.inner.Held.{counterLimit, heardFrom}
-use Rattle.mcw_symbols.specs.inner.Keys.{AllKept}
-use Rattle.mcw_bits.proofs.Place.{RacedAt, mcw-starts, mcw-winner, mcw-scores, mcw-countable, mcw-leadable, mcw-step, mcw-counts}
-use Rattle.mcw_symbols.proofs.Heard.{sayings-heard, kept-symbols, all-start}
+use Rattle.race.specs.inner.Held.{counterLimit}
+use Rattle.mcw_symbols.specs.inner.Kept.{Kept}
+use Rattle.mcw_bits.proofs.Place.{RacedAt, mcw-starts, mcw-winner, mcw-counts}
+use Rattle.mcw_symbols.proofs.Keeping.{kept-starts, askable}
+use Rattle.mcw_symbols.proofs.Scoring.{count-asks, score-asks, scored-next}
+use Rattle.mcw_symbols.proofs.Site.{Site, site-marks, site-told, leave-asks, enter-asks, advance-asks, gone-on}
 use Rattle.mcw_symbols.proofs.run.mcw_symbols.Statement.{statement}
 use Rattle.mcw_symbols.proofs.run.mcw_symbols.Tie as tie
 
 abbrev Inv-loop : tie.InvT-loop
-Inv-loop s k k0₀ k1₀ k2₀ k3₀ f₀ t₀ scores₀ leader₀ g₀ i₀ k0 k1 k2 k3 f t scores leader g i =
-    (i ≤ length s) × AllKept s k i k0 k1 k2 k3 f × RacedAt s i leader scores t × (length g ≡ 4)
+Inv-loop s k cnt₀ latest₀ scores₀ leader₀ t₀ c₀ i₀ cnt latest scores leader t c i =
+    (i ≤ length s) × Kept s k i cnt latest c × RacedAt s i leader scores t
 
 abbrev μ-loop : tie.MeasureT-loop
-μ-loop s k k0₀ k1₀ k2₀ k3₀ f₀ t₀ scores₀ leader₀ g₀ i₀ k0 k1 k2 k3 f t scores leader g i = length s - i
+μ-loop s k cnt₀ latest₀ scores₀ leader₀ t₀ c₀ i₀ cnt latest scores leader t c i = length s - i
 
--- the entry, from the loop's head; the turn of a place and the loop's head, from where its symbol is read
-abbrev start : tie.At-loop Inv-loop μ-loop → tie.Start Inv-loop μ-loop
-start a = a .before .before
+-- the entry, from the loop's head; the turn and the head, from where the symbol of a place is read; and that, from where the windows have been asked
+abbrev begin : tie.At-loop Inv-loop μ-loop → tie.Start Inv-loop μ-loop
+begin a = a .before .before
 
-abbrev turn : tie.After-symbol Inv-loop μ-loop → tie.In-loop Inv-loop μ-loop
+abbrev turn : tie.After-wide Inv-loop μ-loop → tie.In-loop Inv-loop μ-loop
 turn y = y .before .before
 
-abbrev head : tie.After-symbol Inv-loop μ-loop → tie.At-loop Inv-loop μ-loop
+abbrev head : tie.After-wide Inv-loop μ-loop → tie.At-loop Inv-loop μ-loop
 head y = turn y .before
 
--- where the symbol is read, from where the windows have said; and that, from where the race has gone on, and from where the windows have slid on
-abbrev read : tie.After-say-all Inv-loop μ-loop → tie.After-symbol Inv-loop μ-loop
-read v = v .before .before
+abbrev read : tie.After-ask Inv-loop μ-loop → tie.After-wide Inv-loop μ-loop
+read q = q .before .before .before .before .before
 
-abbrev told : tie.After-lead Inv-loop μ-loop → tie.After-say-all Inv-loop μ-loop
-told d = d .before .before .before .before
+-- where they have been asked, from where their verdicts are told, and that, from where the oldest samples have left, x has come and the candidates
+-- have gone on
+abbrev asked : tie.After-tell Inv-loop μ-loop → tie.After-ask Inv-loop μ-loop
+asked t = t .before .before
 
-abbrev led : tie.After-slide-all Inv-loop μ-loop → tie.After-lead Inv-loop μ-loop
-led c = c .before .before .before .before .before .before
+abbrev told : tie.After-score Inv-loop μ-loop → tie.After-tell Inv-loop μ-loop
+told p = p .before .before .before .before
+
+abbrev raced : tie.After-leave-all Inv-loop μ-loop → tie.After-score Inv-loop μ-loop
+raced l = l .before .before
+
+abbrev left : tie.After-enter Inv-loop μ-loop → tie.After-leave-all Inv-loop μ-loop
+left n = n .before .before .before
+
+x-below : (y : tie.After-wide Inv-loop μ-loop) → y .wide .result < begin (head y) .args .k
+x-below y = let a = head y in omega (arith, y .wide .ensures, begin a .pre .below (a .loop .i) (turn y .loop-test .taken))
+
+site : (q : tie.After-ask Inv-loop μ-loop)
+    → let y = read q in
+    let l = head y .loop in
+    let z = begin (head y) .args in
+    Site (now (z .s)) (z .k) (l .i) (l .cnt) (l .latest) (l .c) (y .wide .result) (q .before .before .before .before .spread .result) (q .before .before .before .taking .result)
+    (q .ask .result)
+site q =
+    let y = read q in
+    let a = head y in
+    record {
+      samples = begin a .pre;
+      here = turn y .loop-test .taken;
+      kept = a .loop .inv .1;
+      sample-is = y .wide .ensures;
+      spread-is = q .before .before .before .before .spread .ensures;
+      taking-is = q .before .before .before .taking .ensures;
+      asks = q .ask .ensures;
+    }
 
 -- the place is far below what a counter holds
 soon : (a : tie.At-loop Inv-loop μ-loop) → a .loop .i < counterLimit
-soon a = omega (arith, a .loop .inv .0, start a .pre .short)
+soon a = omega (arith, a .loop .inv .0, begin a .pre .short)
 
 loop-holds : tie.Need-loop-holds Inv-loop μ-loop
-loop-holds c =
-    let z = c .before in
-    (omega arith, all-start (now (z .args .s)) (z .args .k) (z .pre .some) (z .pre .few), mcw-starts (now (z .args .s)), refl)
+loop-holds c = let z = c .before in (omega arith, kept-starts (now (z .args .s)) (z .args .k) (z .pre .some), mcw-starts (now (z .args .s)))
 
-say-all-requires : tie.Need-say-all-requires Inv-loop μ-loop
-say-all-requires c κs =
-    let a = head (c .before) in
-    (a .loop .inv .3, kept-symbols (start a .pre) (a .loop .inv .0) (a .loop .inv .1))
+spread-requires : tie.Need-spread-requires Inv-loop μ-loop
+spread-requires c κs = omega (arith, x-below c, begin (head c) .pre .few)
 
-mul-count : tie.Need-mul-count Inv-loop μ-loop
-mul-count c = omega (arith, mcw-winner (head (read c) .loop .inv .2))
+ask-requires : tie.Need-ask-requires Inv-loop μ-loop
+ask-requires c κs =
+    let p = c .before .before .before in
+    let y = p .before in
+    askable (begin (head y) .pre) (head y .loop .inv .1) (x-below y) (p .spread .ensures)
 
-array-read-count : tie.Need-array-read-count Inv-loop μ-loop
-array-read-count c = mcw-winner (head (read c) .loop .inv .2)
+tell-requires : tie.Need-tell-requires Inv-loop μ-loop
+tell-requires c κs = let q = c .before in (site-marks (site q), q .before .before .before .taking .ensures)
+
+verdict-of-requires : tie.Need-verdict-of-requires Inv-loop μ-loop
+verdict-of-requires c κs = mcw-winner (head (read (asked c)) .loop .inv .2)
 
 count-requires : tie.Need-count-requires Inv-loop μ-loop
-count-requires c κs = mcw-countable (head (read c) .loop .inv .2) (read c .symbol .ensures .1) (soon (head (read c)))
+count-requires c κs = let a = head (read (asked (c .before))) in count-asks (a .loop .inv .2) (c .before .tell .result) (soon a)
 
-slice-aggregate-lead : tie.Need-slice-aggregate-lead Inv-loop μ-loop
-slice-aggregate-lead c = sym (mcw-scores (head (read (c .before .before)) .loop .inv .2))
+score-requires : tie.Need-score-requires Inv-loop μ-loop
+score-requires c κs =
+    let t = c .before .before .before in
+    let a = head (read (asked t)) in
+    score-asks (a .loop .inv .2) (t .tell .result) (soon a)
 
-slice-aggregate-lead-2 : tie.Need-slice-aggregate-lead-2 Inv-loop μ-loop
-slice-aggregate-lead-2 c = sym (ap length (c .before .before .before .say-all .ensures))
+leave-all-requires : tie.Need-leave-all-requires Inv-loop μ-loop
+leave-all-requires c κs = leave-asks (site (asked (told (c .before))))
 
-lead-requires : tie.Need-lead-requires Inv-loop μ-loop
-lead-requires c κs =
-    let v = c .before .before .before in
-    mcw-leadable (head (read v) .loop .inv .2) (read v .symbol .ensures .1) (soon (head (read v))) (ap length (v .say-all .ensures))
+enter-requires : tie.Need-enter-requires Inv-loop μ-loop
+enter-requires c κs = let l = c .before .before in enter-asks (site (asked (told (raced l)))) (l .leave-all .ensures)
 
--- the race after the place
-judged : (d : tie.After-lead Inv-loop μ-loop)
-    → let a = head (read (told d)) in
-    RacedAt (now (start a .args .s)) (a .loop .i + 1) (d .lead .result) (d .lead .last .0) (d .before .before .before .count .result)
-judged d =
-    let v = told d in
-    let a = head (read v) in
-    let said = sayings-heard (start a .pre) (a .loop .inv .0) (a .loop .inv .1) in
-    mcw-step (a .loop .inv .2) (v .say-all .last .0) (ap length (v .say-all .ensures)) (read v .symbol .ensures .0)
-    (λ j l. ap (λ (g : List ℕ). heardFrom g j) (v .say-all .ensures) ∙ said j l) (d .lead .ensures) (d .before .before .before .count .ensures)
+advance-requires : tie.Need-advance-requires Inv-loop μ-loop
+advance-requires c κs = let l = left c in advance-asks (site (asked (told (raced l)))) (l .leave-all .ensures) (c .enter .ensures)
 
-slide-all-requires : tie.Need-slide-all-requires Inv-loop μ-loop
-slide-all-requires c κs =
-    let t = turn (read (told (c .before .before .before .before .before))) in
-    (t .loop-test .taken, start (t .before) .pre, t .before .loop .inv .1)
+-- where the symbol was read, from the end of a turn
+abbrev from : tie.After-advance Inv-loop μ-loop → tie.After-wide Inv-loop μ-loop
+from c = read (asked (told (raced (left (c .before)))))
 
 add-i : tie.Need-add-i Inv-loop μ-loop
-add-i c = omega (arith, soon (head (read (told (led c)))))
+add-i c = omega (arith, soon (head (from c)))
 
 loop-less : tie.Need-loop-less Inv-loop μ-loop
-loop-less c = omega (arith, turn (read (told (led c))) .loop-test .taken)
+loop-less c = omega (arith, turn (from c) .loop-test .taken)
 
 loop-again : tie.Need-loop-again Inv-loop μ-loop
 loop-again c =
-    let v = told (led c) in
-    (omega (arith, turn (read v) .loop-test .taken), c .slide-all .ensures, judged (led c), ap length (v .say-all .ensures))
+    let n = c .before in
+    let l = left n in
+    let p = raced l in
+    let t = told p in
+    let q = asked t in (
+      omega (arith, turn (from c) .loop-test .taken),
+      gone-on (site q) (l .leave-all .ensures) (n .enter .ensures) (c .advance .ensures),
+      scored-next (head (read q) .loop .inv .2) (t .tell .result) (site-told (site q) (t .tell .ensures)) (p .score .ensures)
+          (p .before .before .before .verdict-of .ensures) (p .before .before .count .ensures),
+    )
 
 returns : tie.Need-returns Inv-loop μ-loop
 returns c = mcw-counts (c .before .loop .inv .2) (omega arith)
@@ -113,14 +144,16 @@ mcw-symbols-spec =
     loop-holds
     (λ c. omega arith)
     (λ c κs. tt)
-    say-all-requires
-    mul-count
-    array-read-count
+    spread-requires
+    (λ c κs. tt)
+    ask-requires
+    tell-requires
+    verdict-of-requires
     count-requires
-    slice-aggregate-lead
-    slice-aggregate-lead-2
-    lead-requires
-    slide-all-requires
+    score-requires
+    leave-all-requires
+    enter-requires
+    advance-requires
     add-i
     loop-less
     loop-again

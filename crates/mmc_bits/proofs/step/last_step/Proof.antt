@@ -6,7 +6,7 @@ use lib.ListN.{set, getD}
 use lib.Seq.{set-getD}
 use Prim.Native.Nat.{_+_}
 use Rattle.mmc_bits.specs.Levels.{cap}
-use Rattle.mmc_bits.proofs.Cases.{of-bit-fits, bumped-first, bumped-full, bumped-again, kept-first, kept-full, kept-again}
+use Rattle.mmc_bits.proofs.Cases.{bumped-first, bumped-full, bumped-again, kept-first, kept-full, kept-again}
 use borrow.Author.Needs.{needs}
 use Rattle.mmc_bits.proofs.step.last_step.Statement.{statement}
 use Rattle.mmc_bits.proofs.step.last_step.Tie as tie
@@ -44,9 +44,7 @@ returns-2 c =
     )
 
 add-part : tie.Need-add-part
-add-part c =
-    let z = start (c .before .before) in
-    omega (arith, of-bit-fits (now (z .args .part)) (z .args .at) (z .args .bit) 4294967296 (z .pre .1) (z .pre .2))
+add-part c = let z = start (c .before .before) in omega (arith, z .pre .2)
 
 returns-3 : tie.Need-returns-3
 returns-3 c =

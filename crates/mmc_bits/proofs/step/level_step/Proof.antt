@@ -1,8 +1,6 @@
 -- `level_step` meets its contract: the two counters are read, and that of the bit goes back one larger. Assumes nothing.
 use native.Mathlib.Omega.{arith}
 use borrow.Author.Needs.{needs}
-use denote.Ref.{now}
-use Rattle.mmc_bits.proofs.Cases.{of-bit-fits}
 use Rattle.mmc_bits.proofs.step.level_step.Statement.{statement}
 use Rattle.mmc_bits.proofs.step.level_step.Tie as tie
 
@@ -11,9 +9,7 @@ abbrev start : tie.After-look → tie.Start
 start c = c .before .before .before .before
 
 add-part : tie.Need-add-part
-add-part c =
-    let z = start (c .before) in
-    omega (arith, of-bit-fits (now (z .args .part)) (z .args .at) (z .args .bit) 4294967296 (z .pre .1) (z .pre .2))
+add-part c = let z = start (c .before) in omega (arith, z .pre .2)
 
 pub level-step-spec : {M : Type 1} → statement M
 level-step-spec =

@@ -1,0 +1,9 @@
+pub mod Words
+pub mod Carry
+pub mod Digits
+pub mod Marking
+pub mod Comparing
+pub mod Choosing
+pub mod Parting
+pub mod Gathering
+pub mod Examples

@@ -1,0 +1,15 @@
+pub mod Digits
+pub mod Finding
+pub mod Deficits
+pub mod Largest
+pub mod Rippling
+pub mod Claiming
+pub mod Choosing
+pub mod Tops
+pub mod Signs
+pub mod Shifting
+pub mod Passing
+pub mod Tallying
+pub mod Stepping
+pub mod Racing
+pub mod Examples
