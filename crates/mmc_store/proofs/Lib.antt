@@ -17,4 +17,3 @@ pub mod Reached
 pub mod Saying
 pub mod Counting
 pub mod Turning
-pub mod Running

@@ -1,8 +1,7 @@
-// MultiMMC over a general alphabet (SP 800-90B 6.3.9): sixteen levels count which symbol followed their contexts, and race.
+// MultiMMC over a general alphabet (SP 800-90B 6.3.9): sixteen levels count which symbol followed their contexts, place by place.
 mod level;
 mod look;
-mod place;
-pub mod run;
+pub mod place;
 mod tables;
 
 // "a context is present with its predicted symbol, or absent"

@@ -1,7 +1,7 @@
 // The estimate over a track's samples: the race, and then the shared estimate.
 use answer::Answer;
 use mmc_run::mmc_bits;
-use mmc_store::run::mmc_symbols;
+use mmc_symbols::mmc_symbols;
 use prediction::estimate::prediction_estimate;
 ghost use mathlib.Core.Path.{_≡_};
 ghost use Prim.Native.Nat.{_≤_};

@@ -7,10 +7,10 @@ use borrow.Author.Needs.{scaled-fits}
 use denote.Ref.{now}
 use lib.ListN.{length}
 use Rattle.mmc_bits.specs.Levels.{levels, cap}
 use Rattle.mmc_store.proofs.Small.{byte, fits-symbol, fits-next, fits-limit, falls}
-use Rattle.mmc_store.proofs.Running.{Run, run-start, place-of, winner-lt, scores-full, countable, leadable, run-next, run-tally}
-use Rattle.mmc_store.proofs.run.run.Statement.{statement}
-use Rattle.mmc_store.proofs.run.run.Tie as tie
+use Rattle.mmc_symbols.proofs.Running.{Run, run-start, place-of, winner-lt, scores-full, countable, leadable, run-next, run-tally}
+use Rattle.mmc_symbols.proofs.run.Statement.{statement}
+use Rattle.mmc_symbols.proofs.run.Tie as tie
 
 abbrev Inv-loop : tie.InvT-loop
 Inv-loop s space₀ entries₀ nodes₀ scores₀ leader₀ tally₀ place₀ space entries nodes scores leader tally place =

@@ -6,11 +6,11 @@ use native.Mathlib.Nat.{le-trans}
 use lib.Dec.{lit≤}
 use denote.Ref.{now}
 use Rattle.mmc_bits.specs.Levels.{levels}
 use Rattle.mmc_store.specs.inner.Places.{store}
 use Rattle.mmc_store.specs.Space.{size}
-use Rattle.mmc_store.proofs.Running.{Lent, lent-fits, lent-long, clear-fits, final-is}
-use Rattle.mmc_store.proofs.run.mmc_symbols.Statement.{statement}
-use Rattle.mmc_store.proofs.run.mmc_symbols.Tie as tie
+use Rattle.mmc_symbols.proofs.Running.{Lent, lent-fits, lent-long, clear-fits, final-is}
+use Rattle.mmc_symbols.proofs.mmc_symbols.Statement.{statement}
+use Rattle.mmc_symbols.proofs.mmc_symbols.Tie as tie
 
 lends : (c : tie.Start) → Lent levels store 16777216 (now (c .args .space))
 unfolding size

@@ -1,6 +1,6 @@
-// The whole run.
-use crate::place::at_place;
+// MultiMMC over a general alphabet (SP 800-90B 6.3.9), the whole run: the sixteen levels race, place by place.
 use mmc_bits::clear::clear;
+use mmc_store::place::at_place;
 use race::Leader;
 use race::SILENT;
 use race::Tally;
