@@ -6,7 +6,7 @@ use native.Mathlib.Omega.{arith}
 use lib.Dec.{leb}
 use lib.Bits.{bitAnd, bitOr, bitXor, and-zero-r, and-mask, or-zero-r, or-step, xor-zero-r, xor-lt}
 use borrow.Author.Tests.{leb-true, leb-false}
-use Rattle.lanes.specs.Lanes.{lane, half, marked, Low, Marks, Losable}
+use Rattle.lanes.specs.inner.Lanes.{lane, half, marked, Low, Marks, Losable}
 use Rattle.lanes.proofs.Carry.{lane-add, lane-sub, sub-fits}
 use Rattle.lanes.proofs.Digits.{lane-and, lane-or, lane-xor, xor-back}
 use Rattle.lanes.proofs.Marking.{tested, mark-told, ones-of, one-of}

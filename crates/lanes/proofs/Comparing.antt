@@ -5,7 +5,7 @@ use native.Mathlib.Omega.{arith}
 use lib.Dec.{leb, eqb}
 use lib.Bits.{bitAnd, bitOr, bitXor, xor-self, xor-lt, or-shifted-r}
 use borrow.Author.Tests.{leb-true, leb-false, eqb-true, eqb-false}
-use Rattle.lanes.specs.Lanes.{lane, half, marked, Low}
+use Rattle.lanes.specs.inner.Lanes.{lane, half, marked, Low}
 use Rattle.lanes.proofs.Carry.{lane-sub, sub-fits}
 use Rattle.lanes.proofs.Digits.{lane-and, lane-or, lane-xor, xor-none}
 use Rattle.lanes.proofs.Marking.{tested, tops, lane-tops, mark-below, mark-above}

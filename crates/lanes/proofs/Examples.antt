@@ -1,7 +1,7 @@
 -- Words and their lanes, worked out. Assumes nothing.
 use mathlib.Core.Path.{_≡_, refl}
 use mathlib.Core.Bool.{true, false}
-use Rattle.lanes.specs.Lanes.{lane, marked}
+use Rattle.lanes.specs.inner.Lanes.{lane, marked}
 
 -- of 0x0004_0003_0002_0001
 pub example-lowest : lane 1125912791875585 0 ≡ 1

@@ -5,7 +5,7 @@ use mathlib.Core.Logic.{_⊎_, inl, inr}
 use Prim.Native.Nat.{ℕ, _+_, _*_, _/_, _%_, _^_, _≤_, _<_}
 use native.Mathlib.Omega.{arith}
 use lib.Bits.{bitAnd, bitOr, and-mask, mask-lt, or-mod, or-shifted-r}
-use Rattle.lanes.specs.Lanes.{lane, half, marked, Marks}
+use Rattle.lanes.specs.inner.Lanes.{lane, half, marked, Marks}
 use Rattle.lanes.proofs.Words.{each-lane, lane-sum}
 
 -- the code's four shifts, one on another

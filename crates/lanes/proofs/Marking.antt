@@ -8,7 +8,7 @@ use lib.Dec.{eqb}
 use lib.Bits.{bitAnd, bitOr, bitXor, and-self, or-self, and-zero-l, and-zero-r, or-zero-l, or-zero-r, and-comm, and-shifted, and-block}
 use lib.Pow.{shr-shr}
 use borrow.Author.Tests.{eqb-true, eqb-false}
-use Rattle.lanes.specs.Lanes.{lane, half, marked, Low, Marks}
+use Rattle.lanes.specs.inner.Lanes.{lane, half, marked, Low, Marks}
 use Rattle.lanes.proofs.Words.{each-lane, lane-past}
 use Rattle.lanes.proofs.Digits.{lane-and, lane-or, lane-xor}
 

@@ -8,7 +8,7 @@ use lib.Dec.{eqb}
 use lib.Pow.{shl-lt, shl-exact, pow-mono}
 use lib.Bits.{bitAnd, and-mask, and-high}
 use borrow.Author.Tests.{eqb-true}
-use Rattle.lanes.specs.Lanes.{lane}
+use Rattle.lanes.specs.inner.Lanes.{lane}
 use Rattle.lanes.proofs.Words.{each-lane, lane-lt, lane-first, low-of, high-of}
 use Rattle.lanes.proofs.Carry.{lane-add, add-fits, lane-sub, sub-fits, lane-unit}
 use Rattle.lanes.proofs.Digits.{lane-and}

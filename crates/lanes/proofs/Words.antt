@@ -4,7 +4,7 @@ use Prim.Native.Nat.{ℕ, zero, suc, _+_, _*_, _/_, _%_, _^_, _<_}
 use native.Mathlib.Omega.{arith}
 use native.Mathlib.Nat.{zero-div, div-eq-of-lt}
 use lib.Pow.{shr-shr, shr-lt}
-use Rattle.lanes.specs.Lanes.{lane}
+use Rattle.lanes.specs.inner.Lanes.{lane}
 
 -- what holds of the four lanes holds of each
 pub each-lane : (P : ℕ → Type 0) → P 0 → P 1 → P 2 → P 3 → (j : ℕ) → j < 4 → P j

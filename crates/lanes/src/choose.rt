@@ -3,7 +3,7 @@ use crate::compare::at_least;
 ghost use mathlib.Core.Path.{_≡_};
 ghost use mathlib.Core.Bool.{Bool, cond};
 ghost use Prim.Native.Nat.{ℕ, _*_, _/_, _-_, _<_, max};
-ghost use Rattle.lanes.specs.Lanes.{lane, marked, Low, Marks, Losable};
+ghost use Rattle.lanes.specs.inner.Lanes.{lane, marked, Low, Marks, Losable};
 
 // a where there is a mark, b elsewhere: a mark less its lowest bit is a mask of the bits below the mark.
 pub fn pick(marks: u64, a: u64, b: u64) -> u64

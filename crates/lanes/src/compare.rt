@@ -3,7 +3,7 @@ use crate::TOPS;
 ghost use mathlib.Core.Path.{_≡_};
 ghost use Prim.Native.Nat.{ℕ, _<_};
 ghost use lib.Dec.{eqb, leb};
-ghost use Rattle.lanes.specs.Lanes.{lane, marked, Low};
+ghost use Rattle.lanes.specs.inner.Lanes.{lane, marked, Low};
 
 // Where a and b are alike: only there does the subtraction leave the mark.
 pub fn same(a: u64, b: u64) -> u64

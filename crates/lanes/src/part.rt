@@ -3,7 +3,7 @@ ghost use mathlib.Core.Path.{_≡_};
 ghost use mathlib.Core.Bool.{Bool, cond};
 ghost use Prim.Native.Nat.{ℕ, _*_, _/_, _%_, _^_, _<_};
 ghost use lib.Dec.{eqb};
-ghost use Rattle.lanes.specs.Lanes.{lane, marked, Marks, Begins};
+ghost use Rattle.lanes.specs.inner.Lanes.{lane, marked, Low, Marks, Begins};
 
 // x in each lane.
 pub fn spread(x: u64) -> u64
@@ -15,6 +15,7 @@ pub fn spread(x: u64) -> u64
 
 // Each lane without its lowest bit.
 pub fn even(a: u64) -> u64
+    requires { ⌜ Low a ⌝ }
     ensures { λ r. ⌜ ((j : ℕ) → j < 4 → lane r j ≡ lane a j / 2 * 2) ⌝ }
 {
     a & 0xfffe_fffe_fffe_fffe

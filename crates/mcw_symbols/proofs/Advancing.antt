@@ -6,7 +6,7 @@ use native.Mathlib.Omega.{arith}
 use lib.Dec.{eqb, leb}
 use borrow.Author.Tests.{eqb-true}
 use Rattle.race.proofs.Cases.{tested}
-use Rattle.lanes.specs.Lanes.{lane, half, marked, Low, Marks, Losable}
+use Rattle.lanes.specs.inner.Lanes.{lane, half, marked, Low, Marks, Losable}
 use Rattle.lanes.proofs.Words.{lane-zero}
 use Rattle.lanes.proofs.Marking.{marks-of}
 use Rattle.mcw_symbols.specs.inner.Advance.{spent, loserOf, Advanceable, Advances}
@@ -47,6 +47,14 @@ module _ {c : Candidates} {alike x gone key : ℕ} (A : Advanceable c alike x go
     module _ (leads : ℕ) (L : (j : ℕ) → j < 4 → lane leads j ≡ marked (leb (lane m j) (lane key j))) where
       pub leads-marks : Marks leads
       leads-marks = marks-of leads (λ j. leb (lane m j) (lane key j)) L
+
+      pub picked-low : (p : ℕ) → ((j : ℕ) → j < 4 → (t : Bool) → lane leads j ≡ marked t → lane p j ≡ cond t (lane m j) (lane key j)) → Low p
+      picked-low p P =
+          record {
+            each = λ j l.
+                rw (P j l (leb (lane m j) (lane key j)) (L j l))
+                (chosen-low (leb (lane m j) (lane key j)) (lane m j) (lane key j) (spent-low .each j l) (A .key-low .each j l));
+          }
 
       module _ (p e : ℕ) (P : (j : ℕ) → j < 4 → (t : Bool) → lane leads j ≡ marked t → lane p j ≡ cond t (lane m j) (lane key j))
           (E : (j : ℕ) → j < 4 → lane e j ≡ lane p j / 2 * 2) where

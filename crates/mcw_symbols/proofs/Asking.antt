@@ -7,7 +7,7 @@ use native.Mathlib.Omega.{arith}
 use lib.Bits.{bitAnd, bitOr, bitXor}
 use lib.ListN.{getD}
 use Rattle.race.proofs.Cases.{same?}
-use Rattle.lanes.specs.Lanes.{lane, marked, Low}
+use Rattle.lanes.specs.inner.Lanes.{lane, marked, Low}
 use Rattle.lanes.proofs.Words.{lane-zero}
 use Rattle.lanes.proofs.Marking.{both-marked, either-marked, but-marked}
 use Rattle.mcw_symbols.specs.inner.Search.{most, Searchable, Settled, Unmoved, Searched}

@@ -9,7 +9,7 @@ use lib.ListN.{length, getD, set, drop, length-set}
 use lib.Seq.{getD-set-same, getD-set-other}
 use borrow.Author.Tests.{eq-eqb, ne-eqb}
 use Rattle.race.proofs.Cases.{same?}
-use Rattle.lanes.specs.Lanes.{lane}
+use Rattle.lanes.specs.inner.Lanes.{lane}
 use Rattle.lanes.proofs.Words.{each-lane}
 use Rattle.lanes.proofs.Carry.{lane-add, add-fits, lane-sub, sub-fits, lane-unit}
 use Rattle.mcw_bits.specs.inner.Counts.{before}

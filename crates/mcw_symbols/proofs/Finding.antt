@@ -7,7 +7,7 @@ use native.Mathlib.Nat.{le-of-mul-le-mul-right, lt-of-mul-lt-mul-right}
 use lib.Bits.{bitAnd, and-high}
 use lib.ListN.{getD}
 use lib.Pow.{pow-pos, high-ones}
-use Rattle.lanes.specs.Lanes.{lane}
+use Rattle.lanes.specs.inner.Lanes.{lane}
 use Rattle.mcw_symbols.specs.inner.Candidate.{Foremost}
 use Rattle.mcw_symbols.specs.inner.Search.{heldCount, heldPlace}
 use Rattle.mcw_symbols.proofs.Candidate.{foremost-none, foremost-takes, foremost-keeps}

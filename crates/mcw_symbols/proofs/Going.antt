@@ -7,7 +7,7 @@ use lib.Dec.{eqb, leb}
 use lib.ListN.{length, getD}
 use borrow.Author.Tests.{leb-true, leb-false}
 use Rattle.race.proofs.Cases.{tested}
-use Rattle.lanes.specs.Lanes.{lane, marked}
+use Rattle.lanes.specs.inner.Lanes.{lane, marked}
 use Rattle.mcw_bits.specs.inner.Counts.{before}
 use Rattle.mcw_bits.specs.Mcw.{size}
 use Rattle.mcw_bits.proofs.Counting.{before-same, before-other, before-mono}

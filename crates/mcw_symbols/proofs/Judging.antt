@@ -9,7 +9,7 @@ use lib.ListN.{length, getD}
 use borrow.Author.Tests.{leb-true, leb-false, le-leb, eqb-false, eq-eqb, ne-eqb}
 use Rattle.race.specs.Race.{hit, miss, judge, hitOf}
 use Rattle.race.proofs.Cases.{tested, same?}
-use Rattle.lanes.specs.Lanes.{lane}
+use Rattle.lanes.specs.inner.Lanes.{lane}
 use Rattle.verdicts.specs.inner.Told.{spokeOf}
 use Rattle.mcw_bits.specs.Commonest.{commonest, window}
 use Rattle.mcw_bits.specs.Mcw.{size, said}

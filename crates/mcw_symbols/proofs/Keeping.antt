@@ -8,7 +8,7 @@ use lib.Dec.{eqb, leb}
 use lib.ListN.{length, getD, replicate, length-replicate, getD-replicate}
 use borrow.Author.Tests.{leb-true}
 use Rattle.race.proofs.Cases.{tested}
-use Rattle.lanes.specs.Lanes.{lane}
+use Rattle.lanes.specs.inner.Lanes.{lane}
 use Rattle.lanes.proofs.Words.{each-lane, lane-zero}
 use Rattle.mcw_bits.specs.inner.Counts.{before}
 use Rattle.mcw_bits.specs.Mcw.{size}

@@ -8,7 +8,7 @@ use lib.Dec.{leb, ltb}
 use lib.ListN.{length, getD}
 use borrow.Author.Tests.{leb-true, leb-false, ltb-true, ltb-false, le-leb, lt-leb, lt-ltb, le-ltb}
 use Rattle.race.proofs.Cases.{tested, same?}
-use Rattle.lanes.specs.Lanes.{lane}
+use Rattle.lanes.specs.inner.Lanes.{lane}
 use Rattle.lanes.proofs.Words.{each-lane}
 use Rattle.mcw_bits.specs.Mcw.{size}
 use Rattle.mcw_symbols.specs.inner.Windows.{starts, Counted, Bytes, leaver, lessOne, Leavable, Leaves, Gone}

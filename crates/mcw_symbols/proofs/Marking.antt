@@ -3,7 +3,7 @@ use mathlib.Core.Path.{_≡_, sym, ap, _∙_}
 use mathlib.Core.Bool.{Bool}
 use Prim.Native.Nat.{ℕ, _<_}
 use lib.Dec.{leb}
-use Rattle.lanes.specs.Lanes.{lane, marked}
+use Rattle.lanes.specs.inner.Lanes.{lane, marked}
 use Rattle.lanes.proofs.Words.{each-lane}
 use Rattle.mcw_bits.specs.Mcw.{size}
 

@@ -9,7 +9,7 @@ use lib.ListN.{getD}
 use lib.Pow.{shl-exact}
 use borrow.Author.Tests.{eq-eqb, ne-eqb}
 use Rattle.race.proofs.Cases.{same?}
-use Rattle.lanes.specs.Lanes.{lane, half, Begins}
+use Rattle.lanes.specs.inner.Lanes.{lane, half, Begins}
 use Rattle.mcw_symbols.specs.inner.Search.{Searchable, Favourite, Settled, Unmoved, Sets, Searched}
 use Rattle.mcw_symbols.specs.declared.Candidates.{Candidates}
 

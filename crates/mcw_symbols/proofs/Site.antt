@@ -5,7 +5,7 @@ use Prim.Native.Nat.{ℕ, _+_, _≤_, _<_}
 use native.Mathlib.Omega.{arith}
 use lib.ListN.{length, getD}
 use Rattle.race.specs.Race.{judge, sample}
-use Rattle.lanes.specs.Lanes.{lane, Marks}
+use Rattle.lanes.specs.inner.Lanes.{lane, Marks}
 use Rattle.verdicts.specs.inner.Told.{Told}
 use Rattle.verdicts.specs.declared.Masks.{Masks}
 use Rattle.mcw_bits.specs.Mcw.{said}

@@ -8,7 +8,7 @@ use native.Mathlib.Nat.{zero-div}
 use lib.ListN.{length, getD}
 use borrow.Author.Tests.{le-leb}
 use Rattle.race.specs.Race.{judge}
-use Rattle.lanes.specs.Lanes.{lane, marked, Marks}
+use Rattle.lanes.specs.inner.Lanes.{lane, marked, Marks}
 use Rattle.lanes.proofs.Words.{each-lane, lane-zero}
 use Rattle.lanes.proofs.Marking.{marks-of}
 use Rattle.verdicts.specs.inner.Told.{digit, Told}

@@ -7,7 +7,7 @@ ghost use mathlib.Core.Path.{_≡_};
 ghost use mathlib.Core.Bool.{Bool};
 ghost use Prim.Native.Nat.{ℕ, _<_};
 ghost use lib.ListN.{getD};
-ghost use Rattle.lanes.specs.Lanes.{lane, marked, Low};
+ghost use Rattle.lanes.specs.inner.Lanes.{lane, marked, Low};
 ghost use Rattle.mcw_symbols.specs.inner.Ask.{Askable, Asks, Hears, LowAll, Taking, needs};
 
 // The candidates, a mark where the candidate is the symbol, and a mark where the window says it.

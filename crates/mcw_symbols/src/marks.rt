@@ -7,7 +7,7 @@ ghost use mathlib.Core.Path.{_≡_};
 ghost use Prim.Native.Nat.{ℕ, _<_};
 ghost use lib.Dec.{leb};
 ghost use Rattle.mcw_bits.specs.Mcw.{size};
-ghost use Rattle.lanes.specs.Lanes.{lane, marked};
+ghost use Rattle.lanes.specs.inner.Lanes.{lane, marked};
 
 // The windows that take part at place i.
 pub fn taking(i: usize) -> u64

@@ -4,7 +4,7 @@ use lanes::part::lane_at;
 use lanes::part::put;
 ghost use mathlib.Core.Path.{_≡_};
 ghost use Prim.Native.Nat.{ℕ, _*_, _^_, _<_};
-ghost use Rattle.lanes.specs.Lanes.{lane, Begins};
+ghost use Rattle.lanes.specs.inner.Lanes.{lane, Begins};
 ghost use Rattle.mcw_symbols.specs.inner.Search.{Finds, Searchable, Searched, Sets};
 
 // The part of w in the one lane that the mask has, where it stands.

@@ -2,7 +2,7 @@
 use lanes::part::gather;
 use mcw_bits::FOURTH;
 use verdicts::Masks;
-ghost use Rattle.lanes.specs.Lanes.{Marks};
+ghost use Rattle.lanes.specs.inner.Lanes.{Marks};
 ghost use Rattle.mcw_symbols.specs.inner.Ask.{Taking, partAt};
 ghost use Rattle.mcw_symbols.specs.inner.Tell.{Gathers, Tells};
 

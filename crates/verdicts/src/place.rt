@@ -11,11 +11,17 @@ use crate::planes::top_bit;
 use crate::tally::count_masks;
 use race::Tally;
 ghost use mathlib.Core.Path.{_≡_};
-ghost use Rattle.verdicts.specs.inner.Steps.{Onwards, Passable, Steppable, Stepped, started};
+ghost use Rattle.verdicts.specs.inner.Steps.{Onwards, Passable, Steppable, Stepped};
 
 // Before the first place nobody has a score.
 pub fn start() -> Race
-    ensures { λ r. ⌜ r ≡ started ⌝ }
+    ensures { λ r. ⌜ r ≡ record {
+      low = record { p0 = 0; p1 = 0; p2 = 0; p3 = 0; p4 = 0; p5 = 0 };
+      far = 0;
+      winner = 0;
+      score = 0;
+      tally = record { hits = 0; run = 0; longest = 0 };
+    } ⌝ }
 {
     let low = Low {
         p0: 0,

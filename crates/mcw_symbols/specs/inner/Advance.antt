@@ -3,7 +3,7 @@ use mathlib.Core.Path.{_≡_}
 use mathlib.Core.Bool.{Bool, cond}
 use Prim.Native.Nat.{ℕ, _-_, _*_, _/_, _≤_, _<_, max}
 use lib.Dec.{eqb, leb}
-use Rattle.lanes.specs.Lanes.{lane, marked, Low}
+use Rattle.lanes.specs.inner.Lanes.{lane, marked, Low}
 use Rattle.mcw_symbols.specs.inner.Ask.{LowAll}
 use Rattle.mcw_symbols.specs.declared.Candidates.{Candidates}
 

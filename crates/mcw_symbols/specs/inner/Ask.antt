@@ -4,7 +4,7 @@ use mathlib.Core.Bool.{Bool, true, false, _&&_, _||_, not}
 use mathlib.Core.List.{List}
 use Prim.Native.Nat.{ℕ, _<_}
 use lib.Dec.{eqb, leb}
-use Rattle.lanes.specs.Lanes.{lane, marked, Low}
+use Rattle.lanes.specs.inner.Lanes.{lane, marked, Low}
 use Rattle.mcw_bits.specs.Mcw.{size}
 use Rattle.mcw_symbols.specs.inner.Search.{Searchable, Settled, Unmoved}
 use Rattle.mcw_symbols.specs.declared.Candidates.{Candidates}

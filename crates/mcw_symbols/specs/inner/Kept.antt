@@ -1,7 +1,7 @@
 -- What the code holds of the four windows before a place. Definitions only.
 use mathlib.Core.List.{List}
 use Prim.Native.Nat.{ℕ, _≤_, _<_}
-use Rattle.lanes.specs.Lanes.{lane}
+use Rattle.lanes.specs.inner.Lanes.{lane}
 use Rattle.mcw_bits.specs.Mcw.{size}
 use Rattle.mcw_symbols.specs.inner.Samples.{countsAt, latestAt}
 use Rattle.mcw_symbols.specs.inner.Candidate.{Candidate}

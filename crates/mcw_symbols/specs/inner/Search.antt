@@ -3,7 +3,7 @@ use mathlib.Core.Path.{_≡_}
 use mathlib.Core.List.{List}
 use Prim.Native.Nat.{ℕ, _+_, _*_, _^_, _≤_, _<_}
 use lib.ListN.{length, getD}
-use Rattle.lanes.specs.Lanes.{lane}
+use Rattle.lanes.specs.inner.Lanes.{lane}
 use Rattle.mcw_symbols.specs.inner.Candidate.{Foremost}
 use Rattle.mcw_symbols.specs.declared.Candidates.{Candidates}
 

@@ -2,7 +2,7 @@
 use mathlib.Core.Path.{_≡_}
 use mathlib.Core.Bool.{Bool, cond}
 use Prim.Native.Nat.{ℕ, _<_}
-use Rattle.lanes.specs.Lanes.{lane, marked}
+use Rattle.lanes.specs.inner.Lanes.{lane, marked}
 use Rattle.verdicts.specs.inner.Told.{digit}
 use Rattle.verdicts.specs.declared.Masks.{Masks}
 use Rattle.mcw_symbols.specs.inner.Ask.{partAt}

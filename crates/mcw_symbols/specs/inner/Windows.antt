@@ -5,7 +5,7 @@ use mathlib.Core.List.{List}
 use Prim.Native.Nat.{ℕ, _+_, _-_, _*_, _≤_, _<_}
 use lib.Dec.{leb}
 use lib.ListN.{length, getD, set}
-use Rattle.lanes.specs.Lanes.{lane}
+use Rattle.lanes.specs.inner.Lanes.{lane}
 use Rattle.mcw_bits.specs.inner.Counts.{before}
 use Rattle.mcw_bits.specs.Mcw.{size}
 use Rattle.mcw_symbols.specs.inner.Samples.{last}

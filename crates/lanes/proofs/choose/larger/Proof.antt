@@ -3,7 +3,7 @@
 use mathlib.Core.Path.{_∙_}
 use borrow.Author.Needs.{needs}
 use lib.Dec.{leb}
-use Rattle.lanes.specs.Lanes.{lane}
+use Rattle.lanes.specs.inner.Lanes.{lane}
 use Rattle.lanes.proofs.Marking.{marks-of}
 use Rattle.lanes.proofs.Choosing.{larger-told}
 use Rattle.lanes.proofs.choose.larger.Statement.{statement}

@@ -4,9 +4,9 @@ use mathlib.Core.Path.{_≡_}
 use Prim.Native.Nat.{ℕ, _<_}
 use lib.Dec.{eqb}
 use borrow.Author.Needs.{needs}
-use Rattle.lanes.specs.Lanes.{lane}
+use Rattle.lanes.specs.inner.Lanes.{lane}
 use Rattle.mcw_symbols.specs.inner.Advance.{spent}
-use Rattle.mcw_symbols.proofs.Advancing.{zero-low, alike-marks, losable, spent-low, leads-marks, lost-low, loser-low, advanced}
+use Rattle.mcw_symbols.proofs.Advancing.{zero-low, alike-marks, losable, spent-low, leads-marks, picked-low, lost-low, loser-low, advanced}
 use Rattle.mcw_symbols.proofs.advance.advance.Statement.{statement}
 use Rattle.mcw_symbols.proofs.advance.advance.Tie as tie
 
@@ -31,6 +31,12 @@ pick-requires c κs =
     let d = c .before in
     let A = d .before .before .pre in
     (leads-marks A (d .lose .result) (left d) (c .at-least .result) (c .at-least .ensures), (spent-low A (d .lose .result) (left d), A .key-low))
+
+even-requires : tie.Need-even-requires
+even-requires c κs =
+    let a = c .before in
+    let d = a .before in
+    picked-low (d .before .before .pre) (d .lose .result) (left d) (a .at-least .result) (a .at-least .ensures) (c .pick .result) (c .pick .ensures)
 
 pick-requires-2 : tie.Need-pick-requires-2
 pick-requires-2 c κs =
@@ -88,7 +94,7 @@ advance-spec =
     lose-requires
     at-least-requires
     pick-requires
-    (λ c κs. tt)
+    even-requires
     pick-requires-2
     pick-requires-3
     pick-requires-4

@@ -2,7 +2,7 @@
 use mathlib.Core.Path.{refl}
 use lib.Dec.{eqb, leb}
 use borrow.Author.Needs.{needs}
-use Rattle.lanes.specs.Lanes.{lane}
+use Rattle.lanes.specs.inner.Lanes.{lane}
 use Rattle.mcw_symbols.proofs.Asking.{right-marks}
 use Rattle.mcw_symbols.proofs.ask.hear.Statement.{statement}
 use Rattle.mcw_symbols.proofs.ask.hear.Tie as tie

@@ -1,7 +1,7 @@
 -- `ask::needing` meets its contract. The marks of each test are put together lane by lane. Assumes nothing.
 use lib.Dec.{eqb, leb}
 use borrow.Author.Needs.{needs}
-use Rattle.lanes.specs.Lanes.{lane}
+use Rattle.lanes.specs.inner.Lanes.{lane}
 use Rattle.mcw_symbols.proofs.Asking.{need-marks}
 use Rattle.mcw_symbols.proofs.ask.needing.Statement.{statement}
 use Rattle.mcw_symbols.proofs.ask.needing.Tie as tie

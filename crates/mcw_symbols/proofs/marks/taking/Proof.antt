@@ -3,7 +3,7 @@ use mathlib.Core.Path.{refl}
 use mathlib.Core.Bool.{true, false}
 use native.Mathlib.Omega.{arith}
 use borrow.Author.Tests.{le-leb, lt-leb}
-use Rattle.lanes.specs.Lanes.{lane}
+use Rattle.lanes.specs.inner.Lanes.{lane}
 use Rattle.mcw_bits.specs.Mcw.{size}
 use Rattle.mcw_symbols.proofs.Marking.{marks-four}
 use Rattle.mcw_symbols.proofs.marks.taking.Statement.{statement}

@@ -3,7 +3,7 @@
 use mathlib.Core.Path.{ap, _∙_}
 use Prim.Native.Nat.{ℕ, _+_, _<_}
 use native.Mathlib.Omega.{arith}
-use Rattle.lanes.specs.Lanes.{half}
+use Rattle.lanes.specs.inner.Lanes.{half}
 use Rattle.mcw_symbols.proofs.Settling.{mask-is, put-here, put-there, count-room, settled-of}
 use borrow.Author.Needs.{needs}
 use Rattle.mcw_symbols.proofs.search.settle.Statement.{statement}
