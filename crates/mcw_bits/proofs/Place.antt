@@ -6,8 +6,8 @@ use native.Mathlib.Omega.{arith}
 use lib.Dec.{leb}
 use lib.ListN.{length, replicate}
 use borrow.Author.Tests.{leb-true, leb-false, lt-leb}
-use Rattle.race.specs.Race.{Guess, silent, none, judge, scored, sample}
-use Rattle.race.specs.inner.Held.{heardFrom, after, tallied, counterLimit, Countable, Led, Leadable}
+use Rattle.race.specs.Race.{Guess, silent, none, judge, sample}
+use Rattle.race.specs.inner.Held.{heardFrom, verdictsOn, settled, after, tallied, counterLimit, Countable, Led, Leadable}
 use Rattle.race.specs.declared.Leader.{Leader}
 use Rattle.race.specs.declared.Tally.{Tally}
 use Rattle.race.proofs.Cases.{tested}
@@ -58,7 +58,7 @@ module _ {s : List ℕ} {i : ℕ} {leader : Leader} {scores : List ℕ} {t : Tal
   -- guesses gs that have, held against x, the verdicts of place i
   module _ (x : ℕ) (gs : List ℕ) (many : length gs ≡ 4) (told : (j : ℕ) → j < 4 → judge (heardFrom gs j) x ≡ judge (said s i j) (sample s i))
       {leader′ : Leader} {scores′ : List ℕ} {t′ : Tally}
-      (L : Led (scored (heardFrom gs) x (after (leader .winner) scores) (length gs)) leader′ scores′)
+      (L : Led (settled (verdictsOn gs x) (after (leader .winner) scores) (length gs)) leader′ scores′)
       (te : t′ ≡ tallied (judge (heardFrom gs (leader .winner)) x) t) where
     early : i < size 0 → RacedAt s (i + 1) leader′ scores′ t′
     early l =

@@ -6,8 +6,8 @@ use Prim.Native.Nat.{ℕ, zero, suc, _+_, _-_, _*_, _^_, _≤_, _<_}
 use native.Mathlib.Omega.{arith}
 use native.Mathlib.Nat.{zero-div}
 use lib.ListN.{length}
-use Rattle.race.specs.Race.{Verdict, hit, miss, none, hitOf, judge, sample, scored, Standing, settle}
-use Rattle.race.specs.inner.Held.{counterLimit, after, heard, heardFrom, silence, tallied, Countable}
+use Rattle.race.specs.Race.{Verdict, hit, miss, none, hitOf, judge, sample, Standing, settle}
+use Rattle.race.specs.inner.Held.{counterLimit, after, heard, heardFrom, settled, silence, tallied, verdictsOn, Countable}
 use Rattle.race.specs.declared.Leader.{Leader}
 use Rattle.race.specs.declared.Tally.{Tally}
 use Rattle.lanes.proofs.Words.{each-lane}
@@ -50,8 +50,8 @@ module _ {scores : List ℕ} {masks : Masks} {leader : Leader} (S : Scorable sco
       let e : digit (masks .rights) j ≡ 0 = ap (λ (n : ℕ). digit n j) z ∙ rw (zero-div (2 ^ j)) in
       rw e (wrong-number (digit (masks .speaking) j) (digit-le (masks .speaking) j) t j)
 
-  stays : scored (heardFrom (numbers masks)) right st 4 ≡ st
-  unfolding scored
+  stays : settled (verdictsOn (numbers masks) right) st 4 ≡ st
+  unfolding settled
   stays = one 3 _ ∙ one 2 _ ∙ one 1 _ ∙ one 0 _
 
   pub none-scores : Scores scores masks leader leader scores

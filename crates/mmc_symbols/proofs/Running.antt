@@ -9,8 +9,8 @@ use lib.ListN.{length, getD, replicate, take, drop, length-replicate}
 use lib.Seq.{length-take-le, length-front, drop-append-add, drop-drop}
 use borrow.Author.Tests.{le-ltb}
 use Rattle.capture.specs.Limit.{symbolLimit}
-use Rattle.race.specs.Race.{none, judge, scored, sample}
-use Rattle.race.specs.inner.Held.{heard, heardFrom, after, tallied, counterLimit, Countable, Led, Leadable}
+use Rattle.race.specs.Race.{none, judge, sample}
+use Rattle.race.specs.inner.Held.{heard, heardFrom, verdictsOn, settled, after, tallied, counterLimit, Countable, Led, Leadable}
 use Rattle.race.specs.declared.Leader.{Leader}
 use Rattle.race.specs.declared.Tally.{Tally}
 use Rattle.race.proofs.Step.{Raced, race-starts, race-length, race-winner, race-countable, race-leadable, race-idle, race-step}
@@ -105,7 +105,7 @@ module _ {n cap : ℕ} {s space es nodes scores : List ℕ} {leader : Leader} {t
       silent-before l j h = ap (λ g. judge (heard g) (getD s i 0)) (said .each j h ∙ quiet-guess cap s i j (omega arith))
 
       module _ {leader′ : Leader} {scores′ : List ℕ} {tally′ : Tally}
-          (L : Led (scored (heardFrom gs) (getD s i 0) (after (leader .winner) scores) (length gs)) leader′ scores′)
+          (L : Led (settled (verdictsOn gs (getD s i 0)) (after (leader .winner) scores) (length gs)) leader′ scores′)
           (te : tally′ ≡ tallied (judge (heardFrom gs (leader .winner)) (getD s i 0)) tally) where
         raced-next : Raced n firstPlace (guess cap s) (sample s) (i + 1 - firstPlace) leader′ scores′ tally′
         raced-next = go (decLt i firstPlace)

@@ -9,6 +9,7 @@ use lib.Dec.{leb}
 use lib.ListN.{length, getD, set, replicate, length-set, length-replicate, length-append, List·getD-append}
 use lib.Seq.{getD-set-same, getD-set-other, getD-at}
 use Rattle.race.specs.inner.Ends.{finalScore}
+use Rattle.race.specs.inner.Held.{settled}
 use Rattle.race.specs.Race.{Guess, silent, Verdict, hit, miss, none, judge, Standing, point, settle, scored, Event, longest}
 use Rattle.race.specs.Race.{standing, event, events, hits}
 use Rattle.race.proofs.Cases.{same?}
@@ -65,6 +66,12 @@ module _ (g : ℕ → Guess) (x : ℕ) (st : Standing) where
   unfolding scored
   scored-winner m p zero l = p
   scored-winner m p (suc j) l = settle-winner (judge (g j) x) (scored g x st j) j m l (scored-winner m p j (omega arith))
+
+  -- a place by its guesses is the place by their verdicts
+  pub scored-settled : (m : ℕ) → scored g x st m ≡ settled (λ j. judge (g j) x) st m
+  unfolding scored settled
+  scored-settled zero = refl
+  scored-settled (suc m) = ap (λ (t : Standing). settle (judge (g m) x) t m) (scored-settled m)
 
   -- only the verdicts count: right, wrong or silent is all that a place needs of a guess
   pub scored-alike : (g′ : ℕ → Guess) (x′ m : ℕ) → ((j : ℕ) → j < m → judge (g j) x ≡ judge (g′ j) x′) → scored g x st m ≡ scored g′ x′ st m

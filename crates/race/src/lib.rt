@@ -1,8 +1,8 @@
 // Sub-predictors compete: the winner, the scores, the hits and the longest run. MultiMCW runs it with four windows, MultiMMC with sixteen levels.
 ghost use mathlib.Core.Path.{_≡_};
 ghost use lib.ListN.{length};
-ghost use Rattle.race.specs.Race.{judge, scored};
-ghost use Rattle.race.specs.inner.Held.{Countable, Leadable, Led, after, heard, heardFrom, tallied};
+ghost use Rattle.race.specs.Race.{judge};
+ghost use Rattle.race.specs.inner.Held.{Countable, Leadable, Led, after, heard, settled, tallied, verdictsOn};
 
 // The guess of a sub-predictor that does not take part.
 pub const SILENT: u16 = 256;
@@ -44,7 +44,7 @@ pub struct Leader {
 pub fn lead(scores: &mut [u64], guesses: &[u16], leader: Leader, x: u16) -> Leader
     requires { ⌜ Leadable (now scores) (now guesses) leader x ⌝ }
     ensures { λ r.
-        ⌜ Led (scored (heardFrom (now (guesses .entry))) x (after (leader .winner) (now (scores .entry))) (length (now (guesses .entry)))) r
+        ⌜ Led (settled (verdictsOn (now (guesses .entry)) x) (after (leader .winner) (now (scores .entry))) (length (now (guesses .entry)))) r
         (now (scores .exit)) ⌝ }
 {
     let mut winner = leader.winner;

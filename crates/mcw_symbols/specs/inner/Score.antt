@@ -3,8 +3,7 @@ use mathlib.Core.Path.{_≡_}
 use mathlib.Core.List.{List, [], _∷_}
 use Prim.Native.Nat.{ℕ, _+_, _-_, _*_}
 use lib.ListN.{length}
-use Rattle.race.specs.Race.{scored}
-use Rattle.race.specs.inner.Held.{Leadable, Led, after, heardFrom, silence}
+use Rattle.race.specs.inner.Held.{Leadable, Led, after, settled, silence, verdictsOn}
 use Rattle.race.specs.declared.Leader.{Leader}
 use Rattle.verdicts.specs.inner.Told.{digit}
 use Rattle.verdicts.specs.declared.Masks.{Masks}
@@ -27,4 +26,4 @@ pub record Scorable (scores : List ℕ) (masks : Masks) (leader : Leader) : Type
 
 -- each right window gains one, and wins if its score is then at least the winner's
 pub record Scores (scores : List ℕ) (masks : Masks) (leader r : Leader) (scores′ : List ℕ) : Type 0 where
-  pub leads : Led (scored (heardFrom (numbers masks)) right (after (leader .winner) scores) 4) r scores′
+  pub leads : Led (settled (verdictsOn (numbers masks) right) (after (leader .winner) scores) 4) r scores′
