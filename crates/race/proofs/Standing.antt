@@ -20,7 +20,7 @@ settle-length hit st j = length-set (st .scores) j _
 settle-length miss st j = refl
 settle-length none st j = refl
 
-settle-other : (v : Verdict) (st : Standing) (j q : ℕ) → (q ≡ j → ⊥) → getD (settle v st j .scores) q 0 ≡ getD (st .scores) q 0
+pub settle-other : (v : Verdict) (st : Standing) (j q : ℕ) → (q ≡ j → ⊥) → getD (settle v st j .scores) q 0 ≡ getD (st .scores) q 0
 settle-other hit st j q n = getD-set-other (st .scores) j q _ 0 n
 settle-other miss st j q n = refl
 settle-other none st j q n = refl
@@ -101,9 +101,9 @@ module _ (g : ℕ → Guess) (x : ℕ) (st : Standing) where
   unfolding scored
   scored-none j e = rw (add-one j, e)
 
-no-score : (m q : ℕ) → getD (replicate {A = ℕ} m 0) q 0 ≤ 0
-no-score zero q = omega arith
-no-score (suc m) zero = omega arith
+pub no-score : (m q : ℕ) → getD (replicate {A = ℕ} m 0) q 0 ≡ 0
+no-score zero q = refl
+no-score (suc m) zero = refl
 no-score (suc m) (suc q) = no-score m q
 
 module _ (m first : ℕ) (guess : ℕ → ℕ → Guess) (truth : ℕ → ℕ) where
@@ -120,7 +120,7 @@ module _ (m first : ℕ) (guess : ℕ → ℕ → Guess) (truth : ℕ → ℕ) w
   -- no score is above the number of places
   pub standing-le : (n q : ℕ) → getD (standing m first guess truth n .scores) q 0 ≤ n
   unfolding standing
-  standing-le zero q = no-score m q
+  standing-le zero q = omega (arith, no-score m q)
   standing-le (suc n) q =
       omega (arith, standing-le n q, scored-le (guess (first + n)) (truth (first + n)) (standing m first guess truth n) m q (omega (arith, standing-length n)))
 

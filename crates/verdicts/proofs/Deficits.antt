@@ -13,7 +13,7 @@ use Rattle.race.specs.Race.{Guess, Verdict, hit, miss, none, judge, Standing, p
 use Rattle.verdicts.specs.inner.Deficits.{lastOf, someOf, isRight, claims, gain, successor, Behind}
 use Rattle.race.proofs.Cases.{tested, same?}
 use Rattle.verdicts.proofs.Finding.{some-found, some-none, last-none}
-use Rattle.race.proofs.Standing.{scored-length, scored-kept, scored-winner}
+use Rattle.race.proofs.Standing.{settle-other, scored-length, scored-kept, scored-winner}
 
 -- a point
 module _ (st : Standing) (j : ℕ) (l : j < length (st .scores)) where
@@ -176,18 +176,13 @@ module _ (m : ℕ) (g : ℕ → Guess) (x : ℕ) (st : Standing) (top : ℕ) (d 
   settled miss s j h = omega arith
   settled none s j h = omega arith
 
-  settled-other : (v : Verdict) (s : Standing) (j q : ℕ) → j < length (s .scores) → (q ≡ j → ⊥) → getD (settle v s j .scores) q 0 ≡ getD (s .scores) q 0
-  settled-other hit s j q h n = theirs s j h q n
-  settled-other miss s j q h n = refl
-  settled-other none s j q h n = refl
-
   pub points : (j q : ℕ) → q < j → j ≤ m → getD (scored g x st j .scores) q 0 ≡ getD (st .scores) q 0 + cond (r q) 1 0
   unfolding scored
   points zero q h l = absurd (omega arith)
   points (suc j) q h l =
       same? q j
       (λ e. rw e (rw (rs j l) (settled (judge (g j) x) (scored g x st j) j (long j l) ∙ rw (scored-kept g x st j j (omega arith)))))
-      (λ n. settled-other (judge (g j) x) (scored g x st j) j q (long j l) n ∙ points j q (omega arith) (omega arith))
+      (λ n. settle-other (judge (g j) x) (scored g x st j) j q n ∙ points j q (omega arith) (omega arith))
 
   -- the deficits after the place
   pub behind-next : (d′ : ℕ → ℕ) → ((j : ℕ) → j < m → d′ j + cond (r j) 1 0 ≡ d j + gain r d m) → Behind m (scored g x st m) (top + gain r d m) d′

@@ -6,13 +6,9 @@ use native.Mathlib.Omega.{arith}
 use lib.ListN.{getD, replicate, length-replicate}
 use Rattle.race.specs.Race.{Guess, judge, Standing, standing}
 use Rattle.race.specs.inner.Ends.{finalScore}
+use Rattle.race.proofs.Standing.{no-score}
 use Rattle.verdicts.specs.inner.Deficits.{isRight, gain, Behind}
 use Rattle.verdicts.proofs.Deficits.{gain-enough, best-next, points, behind-next}
-
-pub no-score : (m q : ℕ) → getD (replicate {A = ℕ} m 0) q 0 ≡ 0
-no-score zero q = refl
-no-score (suc m) zero = refl
-no-score (suc m) (suc q) = no-score m q
 
 module _ (m first : ℕ) (guess : ℕ → ℕ → Guess) (truth : ℕ → ℕ) (some : 0 < m) where
   abbrev st : ℕ → Standing

@@ -13,7 +13,7 @@ use Rattle.race.specs.inner.Held.{counterLimit, tallied}
 use Rattle.race.specs.inner.Ends.{runAfter, finalScore, tallyOf}
 use Rattle.race.proofs.Cases.{tested}
 use Rattle.race.proofs.Trace.{hits-append, hits-le, runAfter-snoc, runAfter-le, runAfter-le-longest, longest-snoc}
-use Rattle.race.proofs.Standing.{final-score-le, events-length}
+use Rattle.race.proofs.Standing.{no-score, final-score-le, events-length}
 use Rattle.verdicts.specs.inner.Told.{digit, spokeOf, Told}
 use Rattle.verdicts.specs.inner.Deficits.{isRight, gain}
 use Rattle.verdicts.specs.inner.Planes.{bitAt, lowAt, deficitAt}
@@ -23,7 +23,6 @@ use Rattle.verdicts.specs.declared.Masks.{Masks}
 use Rattle.verdicts.specs.declared.Race.{Race}
 use Rattle.verdicts.proofs.Digits.{digit-le, digit-one}
 use Rattle.verdicts.proofs.Deficits.{winner-next, best-next, behind-next, behind-ext, quiet-gain, quiet-successor}
-use Rattle.verdicts.proofs.Largest.{no-score}
 use Rattle.verdicts.proofs.Tops.{digit-zero}
 use Rattle.verdicts.proofs.Signs.{signs-none}
 use Rattle.verdicts.proofs.Tallying.{right-spoke}
