@@ -42,8 +42,10 @@ extern "C" {
 #define ABUTFERN_SYMBOL_LIMIT 16777216 /* the most symbols of a capture */
 #define ABUTFERN_COUNTERS 262140       /* u32 counters for MultiMMC on at most two values */
 #define ABUTFERN_SPACE 16777216        /* u32 numbers for MultiMMC on more than two values */
-#define ABUTFERN_RECORD_KIND 1         /* the kind of a record that holds an answer */
+#define ABUTFERN_RECORD_KIND 1         /* a record that holds an answer without who predicted */
 #define ABUTFERN_RECORD_SIZE 61        /* bytes of such a record */
+#define ABUTFERN_NAMED_RECORD_KIND 2   /* a record that tells who predicted as well */
+#define ABUTFERN_NAMED_RECORD_SIZE 66  /* bytes of such a record */
 
 typedef struct {
     uint64_t c;            /* correct predictions */
@@ -60,6 +62,9 @@ typedef struct {
     uint64_t place;  /* the first bad place, for number 3 */
     uint64_t k;      /* the alphabet's size */
     uint64_t rounds; /* bisection rounds begun, at most 1,076 */
+    uint64_t winner; /* the sub-predictor that won, from 1: of MultiMCW the window (63, 255, 1023 or
+                        4095 samples), of MultiMMC the level (as many samples); 0 if there is none */
+    uint64_t score;  /* how often the winner's own prediction was right, at most n */
     abutfern_Estimate estimate;
 } abutfern_Answer;
 
@@ -74,8 +79,10 @@ typedef struct { uint64_t number, which; double value; } abutfern_Figure;
 /* size: how many bytes the record takes, 0 if refused */
 typedef struct { uint64_t number, size; } abutfern_Written;
 
-/* answer: what the record holds; a refusal of the same number if refused */
-typedef struct { uint64_t number, size; abutfern_Answer answer; } abutfern_Reading;
+/* told: 1 if the record tells who predicted; 0 if winner and score are absent, which is not the same
+ * as 0: the two fields of the answer are then 0 and say nothing. answer: what the record holds; a refusal of
+ * the same number if refused */
+typedef struct { uint64_t number, size, told; abutfern_Answer answer; } abutfern_Reading;
 
 /* good: the good records before the first bad one, or all of them; number: 0 if none is bad, else
  * that of the first bad one, whose place is `good`, counted from 0; byte: where the first bad one
@@ -119,8 +126,9 @@ abutfern_Value abutfern_prediction_estimate_function(double p, uint64_t max_run_
 /* Its root in ldomain..1 by bisection. Answers as above, with ldomain in the place of p. */
 abutfern_Solved abutfern_calc_p_local(uint64_t max_run_len, uint64_t n, double ldomain);
 
-/* The estimate from counts and the alphabet's size. Answers 4 (c > n, max_run_len > c, c > 0 with
- * max_run_len 0, k outside 1..256, n > 134,217,728). */
+/* The estimate from counts and the alphabet's size. Counts have no predictors: winner and score are
+ * 0. Answers 4 (c > n, max_run_len > c, c > 0 with max_run_len 0, k outside 1..256,
+ * n > 134,217,728). */
 abutfern_Answer abutfern_prediction_estimate(
     uint64_t c, uint64_t n, uint64_t max_run_len, uint64_t k);
 
@@ -155,15 +163,19 @@ abutfern_Figure abutfern_board_figure(
     abutfern_Answer mcw_bits, abutfern_Answer mcw_literal,
     abutfern_Answer mmc_bits, abutfern_Answer mmc_literal, uint8_t bits_per_symbol);
 
-/* Records: docs/RECORDS.md has the layout. What is written reads as the same answer, and what was
- * read writes as the same bytes.
+/* Records: docs/RECORDS.md has the layout. What is written in ABUTFERN_NAMED_RECORD_KIND reads as the
+ * same answer, and in ABUTFERN_RECORD_KIND as the same but for winner and score, which are absent.
+ * What was read writes, in its own kind, as the same bytes.
  *
- * Writes the record of an answer, of kind ABUTFERN_RECORD_KIND, at the start of out; what stands
- * beyond is unchanged. Answers 2 (out shorter than the record, or than ABUTFERN_RECORD_SIZE bytes
- * where there is no such kind), 8 (no such kind), 9 (an answer that no estimator gives: see
- * docs/RECORDS.md). Any answer of the estimators and of abutfern_prediction_estimate is written. */
+ * Writes the record of an answer, of one of these kinds, at the start of out; what stands beyond is
+ * unchanged. `told` is 0 where the answer's winner and score are absent, as abutfern_Reading says of
+ * what was read from a record of ABUTFERN_RECORD_KIND; they are then not looked at. It is any other
+ * number where they are there, as in every answer of the estimators. Answers 2 (out shorter than the
+ * record, or than ABUTFERN_RECORD_SIZE bytes where there is no such kind), 8 (no such kind), 9 (an
+ * answer that no estimator gives: see docs/RECORDS.md; or winner and score absent and asked for).
+ * Any answer of the estimators and of abutfern_prediction_estimate is written in either kind. */
 abutfern_Written abutfern_write_record(
-    abutfern_Answer answer, uint64_t kind, uint8_t *out, size_t out_length);
+    abutfern_Answer answer, uint64_t told, uint64_t kind, uint8_t *out, size_t out_length);
 
 /* Reads the record at the start, whatever follows it. Answers 8, 9. Whatever its length field says,
  * no byte past `length` is read. */

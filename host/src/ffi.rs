@@ -34,6 +34,11 @@ pub struct Answer {
     pub k: u64,
     /// Bisection rounds begun.
     pub rounds: u64,
+    /// The sub-predictor that won, from 1: the window of MultiMCW, shortest first, or the level of
+    /// MultiMMC. 0 where there is none: in every answer but 0, and of counts alone.
+    pub winner: u64,
+    /// How often the winner's own prediction was right, at most N; 0 where there is none.
+    pub score: u64,
     /// The estimate.
     pub estimate: Estimate,
 }
@@ -113,6 +118,9 @@ pub struct Reading {
     pub number: u64,
     /// How many bytes the record takes, 0 unless the number is 0.
     pub size: u64,
+    /// 1 where the record tells who predicted; 0 where the answer's winner and score are absent and
+    /// say nothing.
+    pub told: u64,
     /// The answer in the record; a refusal of the same number where the number is not 0.
     pub answer: Answer,
 }
@@ -216,7 +224,7 @@ functions! {
         mcw_bits: Answer, mcw_literal: Answer, mmc_bits: Answer, mmc_literal: Answer,
         bits_per_symbol: u8) -> Figure;
     "write_record" fn abutfern_write_record(
-        answer: Answer, kind: u64, out: *mut u8, out_length: usize) -> Written;
+        answer: Answer, told: u64, kind: u64, out: *mut u8, out_length: usize) -> Written;
     "read_record" fn abutfern_read_record(bytes: *const u8, length: usize) -> Reading;
     "read_records" fn abutfern_read_records(bytes: *const u8, length: usize) -> Row;
     "record_at" fn abutfern_record_at(bytes: *const u8, length: usize, place: u64) -> Reading;

@@ -24,12 +24,25 @@ pub use ffi::{
     Solved, Value, Written, exported,
 };
 
-/// How many bytes a record of kind 1 takes.
+/// The kind of a record that holds an answer without who predicted, and how many bytes it takes.
+pub const RECORD_KIND: u64 = 1;
 pub const RECORD_SIZE: usize = 61;
+
+/// The kind of a record that tells who predicted as well, and how many bytes it takes.
+pub const NAMED_RECORD_KIND: u64 = 2;
+pub const NAMED_RECORD_SIZE: usize = 66;
+
+/// Who predicted: the sub-predictor that won, from 1, and how often it was right. 0 in both says
+/// that there was none.
+#[derive(Clone, Copy, Debug, PartialEq, Eq)]
+pub struct Winner {
+    pub winner: u64,
+    pub score: u64,
+}
 
 impl Answer {
     /// Every field as a word, floats by their bits: equal words are equal answers.
-    pub fn words(&self) -> [u64; 11] {
+    pub fn words(&self) -> [u64; 13] {
         let e = &self.estimate;
         let floats = [e.p_global, e.p_global_prime, e.p_local, e.min_entropy];
         let [p_global, p_global_prime, p_local, min_entropy] = floats.map(f64::to_bits);
@@ -38,6 +51,8 @@ impl Answer {
             self.place,
             self.k,
             self.rounds,
+            self.winner,
+            self.score,
             e.c,
             e.n,
             e.max_run_len,
@@ -46,6 +61,15 @@ impl Answer {
             p_local,
             min_entropy,
         ]
+    }
+}
+
+impl Reading {
+    /// Who predicted, where the record tells it. One of kind 1 does not: that is absent, and not
+    /// the same as none.
+    pub fn winner(&self) -> Option<Winner> {
+        let Answer { winner, score, .. } = self.answer;
+        (self.told != 0).then_some(Winner { winner, score })
     }
 }
 
@@ -187,9 +211,12 @@ pub fn board_figure(answers: &[Answer; 4], bits_per_symbol: u8) -> Figure {
     }
 }
 
-/// Writes an answer's record of a kind (1) at the start of `out`: answers 0, 2, 8, 9.
-pub fn write_record(answer: &Answer, kind: u64, out: &mut [u8]) -> Written {
-    unsafe { ffi::abutfern_write_record(*answer, kind, out.as_mut_ptr(), out.len()) }
+/// Writes an answer's record of a kind (1 or 2) at the start of `out`: answers 0, 2, 8, 9. `told` says
+/// whether the answer's winner and score are there: where they are absent, as in what was read from a
+/// record of kind 1, kind 2 is refused with 9.
+pub fn write_record(answer: &Answer, told: bool, kind: u64, out: &mut [u8]) -> Written {
+    let (out, length) = (out.as_mut_ptr(), out.len());
+    unsafe { ffi::abutfern_write_record(*answer, told.into(), kind, out, length) }
 }
 
 /// Reads the record at the start of `bytes`, whatever follows it: answers 0, 8, 9.

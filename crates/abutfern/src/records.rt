@@ -1,27 +1,36 @@
 // Records of answers.
 use answer::Answer;
-use record::Reading;
+use record::Flagged;
 use record::Written;
+use record::flag::flagged;
+use record::flag::held_by;
 use rows::Row;
 ghost use mathlib.Core.Path.{_≡_};
+ghost use Rattle.record.specs.Flag.{flaggedOf, heldBy};
 ghost use Rattle.record.specs.Record.{readingOf, writtenIn, writtenOf};
 ghost use Rattle.rows.specs.Rows.{recordAt, rowOf};
 
-// Writes the record of an answer, of a kind, at the start of `out`.
+// Writes the record of an answer, of a kind, at the start of `out`. `told` is 0 where its winner and score are absent.
 #[no_mangle]
-pub extern "C" fn abutfern_write_record(answer: Answer, kind: u64, out: &mut [u8]) -> Written
-    ensures { λ r. ⌜ (r ≡ writtenOf answer kind (now (out .entry))) ×
-        (now (out .exit) ≡ writtenIn answer kind (now (out .entry))) ⌝ }
+pub extern "C" fn abutfern_write_record(
+    answer: Answer,
+    told: u64,
+    kind: u64,
+    out: &mut [u8],
+) -> Written
+    ensures { λ r. ⌜ (r ≡ writtenOf (heldBy answer told) kind (now (out .entry))) ×
+        (now (out .exit) ≡ writtenIn (heldBy answer told) kind (now (out .entry))) ⌝ }
 {
-    record::write::write_record(answer, kind, out)
+    let held = held_by(answer, told);
+    record::write::write_record(held, kind, out)
 }
 
 // Reads the record at the start, whatever follows it.
 #[no_mangle]
-pub extern "C" fn abutfern_read_record(bytes: &[u8]) -> Reading
-    ensures { λ r. ⌜ r ≡ readingOf (now (bytes .entry)) ⌝ }
+pub extern "C" fn abutfern_read_record(bytes: &[u8]) -> Flagged
+    ensures { λ r. ⌜ r ≡ flaggedOf (readingOf (now (bytes .entry))) ⌝ }
 {
-    record::read::read_record(bytes)
+    flagged(record::read::read_record(bytes))
 }
 
 // Reads the records that stand one after the other, up to the first bad one.
@@ -34,8 +43,8 @@ pub extern "C" fn abutfern_read_records(bytes: &[u8]) -> Row
 
 // The record of a place, counted from 0.
 #[no_mangle]
-pub extern "C" fn abutfern_record_at(bytes: &[u8], place: u64) -> Reading
-    ensures { λ r. ⌜ r ≡ recordAt (now (bytes .entry)) place ⌝ }
+pub extern "C" fn abutfern_record_at(bytes: &[u8], place: u64) -> Flagged
+    ensures { λ r. ⌜ r ≡ flaggedOf (recordAt (now (bytes .entry)) place) ⌝ }
 {
-    rows::record_at(bytes, place)
+    flagged(rows::record_at(bytes, place))
 }

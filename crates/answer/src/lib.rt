@@ -1,6 +1,7 @@
 // What every estimator returns: an answer number and, where it ran, the estimate.
 ghost use mathlib.Core.Path.{_≡_};
 ghost use Rattle.answer.specs.Numbers.{given};
+ghost use Rattle.answer.specs.Predicted.{predictedBy};
 ghost use Rattle.answer.specs.Refused.{minusOne, refused, refusedAt, refusedSolved, refusedValue};
 
 // The answer numbers of documents 01 and 02.
@@ -38,13 +39,16 @@ pub struct Estimate {
     pub min_entropy: f64,
 }
 
-// An estimator's answer. `place` is that of number 3, `k` the alphabet's size, `rounds` the bisection rounds begun.
+// An estimator's answer. `place` is that of number 3, `k` the alphabet's size, `rounds` the bisection rounds begun, `winner` the sub-predictor
+// that won, from 1, with `score` right predictions; 0 where there is none.
 #[repr(C)]
 pub struct Answer {
     pub number: u64,
     pub place: u64,
     pub k: u64,
     pub rounds: u64,
+    pub winner: u64,
+    pub score: u64,
     pub estimate: Estimate,
 }
 
@@ -99,6 +103,8 @@ pub fn refused_at(number: u64, place: u64) -> Answer
         place,
         k: 0,
         rounds: 0,
+        winner: 0,
+        score: 0,
         estimate,
     }
 }
@@ -108,6 +114,25 @@ pub fn refused_as(number: u64) -> Answer
     ensures { λ r. ⌜ r ≡ refused number ⌝ }
 {
     refused_at(number, 0)
+}
+
+// An answer with who predicted: one other than 0 has no winner.
+pub fn predicted_by(a: Answer, winner: u64, score: u64) -> Answer
+    ensures { λ r. ⌜ r ≡ predictedBy winner score a ⌝ }
+{
+    let estimate = a.estimate;
+    if a.number != DONE {
+        return a;
+    }
+    Answer {
+        number: DONE,
+        place: a.place,
+        k: a.k,
+        rounds: a.rounds,
+        winner,
+        score,
+        estimate,
+    }
 }
 
 pub fn refused_value(number: u64) -> Value

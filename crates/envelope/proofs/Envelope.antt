@@ -28,6 +28,11 @@ abbrev pub Fits : {X : Type 0} → List (Field X) → X → Type 0
 Fits fs x = Room fs (numbersOf fs x)
 
 module _ {X : Type 0} where
+  pub fits-append : (fs gs : List (Field X)) (x : X) → Fits fs x → Fits gs x → Fits (fs ++ gs) x
+  unfolding Room numbersOf
+  fits-append [] gs x p q = q
+  fits-append (f ∷ fs) gs x p q = (p .0, fits-append fs gs x (p .1) q)
+
   -- the room of one number, by its place in the list
   pub room-at : (fs : List (Field X)) (values : List ℕ) → Room fs values → (i : ℕ) → i < length fs →
       getD values i 0 < 256 ^ getD (map (λ f. f .width) fs) i 0

@@ -1,4 +1,4 @@
-// A record of kind 1, an answer, field by field.
+// A record of an answer, field by field, of either kind.
 use answer::Answer;
 use answer::Estimate;
 use envelope::number_at;
@@ -6,21 +6,25 @@ use envelope::put_number;
 use pattern::bits_of;
 use pattern::double_of;
 ghost use mathlib.Core.Path.{_≡_};
+ghost use mathlib.Core.Bool.{cond, true};
+ghost use mathlib.Core.List.{_++_};
 ghost use Prim.Native.Nat.{_+_, _≤_};
 ghost use lib.Ieee.{binary64, ofBits, toBits};
 ghost use lib.ListN.{drop, length, take};
 ghost use lib.Seq.{sets};
 ghost use Rattle.envelope.specs.Little.{little, numberAt};
-ghost use Rattle.envelope.specs.Envelope.{bodyOf, bodyStart};
-ghost use Rattle.fields.specs.Fields.{answerFields, answerIn, answerSize};
+ghost use Rattle.envelope.specs.Envelope.{bodyOf, bodyStart, following, recordSize, valuesAt};
+ghost use Rattle.fields.specs.Fields.{answerFields, answerIn, answerOf, answerSize, fieldsOf, isKind, tells, winnerFields};
 
-// The kind of a record that holds an answer.
+// The kinds of record that hold an answer. The second tells who predicted.
 pub const ANSWER_KIND: u64 = 1;
 
-// What stands behind its length field, and how many bytes it takes.
-pub const FOLLOWING: u64 = 57;
+pub const NAMED_KIND: u64 = 2;
 
-pub const ANSWER_SIZE: u64 = 61;
+// What stands behind the length field of each.
+const FOLLOWING: u64 = 57;
+
+const NAMED_FOLLOWING: u64 = 62;
 
 // Where each field starts.
 const NUMBER: usize = 6;
@@ -45,6 +49,43 @@ const P_LOCAL: usize = 45;
 
 const MIN_ENTROPY: usize = 53;
 
+const WINNER: usize = 61;
+
+const SCORE: usize = 62;
+
+pub fn is_kind(kind: u64) -> bool
+    ensures { λ r. ⌜ r ≡ isKind kind ⌝ }
+{
+    if kind == ANSWER_KIND {
+        return true;
+    }
+    kind == NAMED_KIND
+}
+
+// Whether a kind tells who predicted.
+pub fn tells_winner(kind: u64) -> bool
+    ensures { λ r. ⌜ r ≡ tells kind ⌝ }
+{
+    kind == NAMED_KIND
+}
+
+// What stands behind the length field in a record of a kind.
+pub fn following_of(kind: u64) -> u64
+    ensures { λ r. ⌜ r ≡ following (fieldsOf kind) ⌝ }
+{
+    if tells_winner(kind) {
+        return NAMED_FOLLOWING;
+    }
+    FOLLOWING
+}
+
+// How many bytes a record of a kind takes.
+pub fn size_of(kind: u64) -> u64
+    ensures { λ r. ⌜ r ≡ answerSize kind ⌝ }
+{
+    4 + following_of(kind)
+}
+
 // The double whose bits stand at a place.
 fn double_at(bytes: &[u8], at: usize) -> f64
     requires { ⌜ at + 8 ≤ length (now bytes) ⌝ }
@@ -61,8 +102,8 @@ fn put_double(out: &mut [u8], at: usize, x: f64)
 }
 
 fn estimate_in(bytes: &[u8]) -> Estimate
-    requires { ⌜ answerSize ≤ length (now bytes) ⌝ }
-    ensures { λ r. ⌜ r ≡ answerIn (now (bytes .entry)) .estimate ⌝ }
+    requires { ⌜ recordSize answerFields ≤ length (now bytes) ⌝ }
+    ensures { λ r. ⌜ r ≡ answerOf (valuesAt answerFields bodyStart (now (bytes .entry))) .estimate ⌝ }
 {
     Estimate {
         c: number_at(bytes, C, 4),
@@ -75,10 +116,21 @@ fn estimate_in(bytes: &[u8]) -> Estimate
     }
 }
 
-// The answer in the record at the start.
-pub fn answer_in(bytes: &[u8]) -> Answer
-    requires { ⌜ answerSize ≤ length (now bytes) ⌝ }
-    ensures { λ r. ⌜ r ≡ answerIn (now (bytes .entry)) ⌝ }
+// A number that only a record which tells who predicted has, and 0 in another.
+fn told_at(bytes: &[u8], kind: u64, at: usize, width: usize) -> u64
+    requires { ⌜ (width ≤ 8) × (tells kind ≡ true → at + width ≤ length (now bytes)) ⌝ }
+    ensures { λ r. ⌜ r ≡ cond (tells kind) (numberAt (now (bytes .entry)) at width) 0 ⌝ }
+{
+    if tells_winner(kind) {
+        return number_at(bytes, at, width);
+    }
+    0
+}
+
+// The answer in the record of a kind at the start.
+pub fn answer_in(bytes: &[u8], kind: u64) -> Answer
+    requires { ⌜ answerSize kind ≤ length (now bytes) ⌝ }
+    ensures { λ r. ⌜ r ≡ answerIn kind (now (bytes .entry)) ⌝ }
 {
     let estimate = estimate_in(bytes);
     Answer {
@@ -86,13 +138,15 @@ pub fn answer_in(bytes: &[u8]) -> Answer
         place: number_at(bytes, PLACE, 4),
         k: number_at(bytes, K, 2),
         rounds: number_at(bytes, ROUNDS, 4),
+        winner: told_at(bytes, kind, WINNER, 1),
+        score: told_at(bytes, kind, SCORE, 4),
         estimate,
     }
 }
 
 // Puts the number, k and the place of an answer.
 fn put_numbers(out: &mut [u8], a: Answer)
-    requires { ⌜ answerSize ≤ length (now out) ⌝ }
+    requires { ⌜ recordSize answerFields ≤ length (now out) ⌝ }
     ensures { λ _. ⌜ now (out .exit) ≡ sets (now (out .entry)) bodyStart (bodyOf (take 3 answerFields) a) ⌝ }
 {
     put_number(out, NUMBER, 1, a.number);
@@ -102,7 +156,7 @@ fn put_numbers(out: &mut [u8], a: Answer)
 
 // Puts its three counts and the rounds.
 fn put_counts(out: &mut [u8], a: Answer)
-    requires { ⌜ answerSize ≤ length (now out) ⌝ }
+    requires { ⌜ recordSize answerFields ≤ length (now out) ⌝ }
     ensures { λ _. ⌜ now (out .exit) ≡ sets (now (out .entry)) 13 (bodyOf (take 4 (drop 3 answerFields)) a) ⌝ }
 {
     let e = a.estimate;
@@ -114,7 +168,7 @@ fn put_counts(out: &mut [u8], a: Answer)
 
 // Puts its four doubles.
 fn put_floats(out: &mut [u8], a: Answer)
-    requires { ⌜ answerSize ≤ length (now out) ⌝ }
+    requires { ⌜ recordSize answerFields ≤ length (now out) ⌝ }
     ensures { λ _. ⌜ now (out .exit) ≡ sets (now (out .entry)) 29 (bodyOf (drop 7 answerFields) a) ⌝ }
 {
     let e = a.estimate;
@@ -124,12 +178,32 @@ fn put_floats(out: &mut [u8], a: Answer)
     put_double(out, MIN_ENTROPY, e.min_entropy);
 }
 
-// Puts the body of an answer's record.
-pub fn put_answer(out: &mut [u8], a: Answer)
-    requires { ⌜ answerSize ≤ length (now out) ⌝ }
+// Puts the fields that every kind has.
+fn put_shared(out: &mut [u8], a: Answer)
+    requires { ⌜ recordSize answerFields ≤ length (now out) ⌝ }
     ensures { λ _. ⌜ now (out .exit) ≡ sets (now (out .entry)) bodyStart (bodyOf answerFields a) ⌝ }
 {
     put_numbers(out, a);
     put_counts(out, a);
     put_floats(out, a);
+}
+
+// Puts who predicted, behind them.
+fn put_winner(out: &mut [u8], a: Answer)
+    requires { ⌜ recordSize (answerFields ++ winnerFields) ≤ length (now out) ⌝ }
+    ensures { λ _. ⌜ now (out .exit) ≡ sets (now (out .entry)) 61 (bodyOf winnerFields a) ⌝ }
+{
+    put_number(out, WINNER, 1, a.winner);
+    put_number(out, SCORE, 4, a.score);
+}
+
+// Puts the body of an answer's record of a kind.
+pub fn put_answer(out: &mut [u8], kind: u64, a: Answer)
+    requires { ⌜ answerSize kind ≤ length (now out) ⌝ }
+    ensures { λ _. ⌜ now (out .exit) ≡ sets (now (out .entry)) bodyStart (bodyOf (fieldsOf kind) a) ⌝ }
+{
+    put_shared(out, a);
+    if tells_winner(kind) {
+        put_winner(out, a);
+    }
 }

@@ -7,14 +7,13 @@ use lib.Dec.{leb}
 use lib.ListN.{length, replicate}
 use borrow.Author.Tests.{leb-true, leb-false, lt-leb}
 use Rattle.race.specs.Race.{Guess, silent, none, judge, sample}
-use Rattle.race.specs.inner.Held.{heardFrom, verdictsOn, settled, after, tallied, counterLimit, Countable, Led, Leadable}
+use Rattle.race.specs.inner.Held.{heardFrom, verdictsOn, settled, after, tallied, ended, counterLimit, Countable, Led, Leadable}
 use Rattle.race.specs.declared.Leader.{Leader}
 use Rattle.race.specs.declared.Tally.{Tally}
 use Rattle.race.proofs.Cases.{tested}
+use Rattle.race.proofs.Ending.{raced-outcome}
 use Rattle.race.proofs.Step.{Raced, race-starts, race-winner, race-length, race-countable, race-leadable, race-idle, race-step}
-use Rattle.mcw_bits.specs.inner.Counts.{countsOf}
-use Rattle.mcw_bits.specs.Mcw.{size, said}
-use Rattle.mcw_bits.specs.declared.Counts.{Counts}
+use Rattle.mcw_bits.specs.Mcw.{size, said, outcomeOf}
 
 -- by cases on the window
 pub four : (P : ℕ → Type 0) → P 0 → P 1 → P 2 → P 3 → (j : ℕ) → j < 4 → P j
@@ -77,5 +76,5 @@ module _ {s : List ℕ} {i : ℕ} {leader : Leader} {scores : List ℕ} {t : Tal
     mcw-step = tested (leb (size 0) i) (λ q. predicted (leb-true _ _ q)) (λ q. early (leb-false _ _ q))
 
   -- after the last place
-  pub mcw-counts : i ≡ length s → _≡_ {A = Counts} (record { c = t .hits; longest = t .longest }) (countsOf s)
-  mcw-counts e = rw (R .raced .hits-are, R .raced .longest-is, e)
+  pub mcw-outcome : i ≡ length s → ended t leader scores ≡ outcomeOf s
+  mcw-outcome e = raced-outcome _ _ _ s (R .raced) (ap (λ n. n - size 0) e)

@@ -4,7 +4,8 @@ use mathlib.Core.List.{List, [], _∷_}
 use Prim.Native.Nat.{ℕ, _+_}
 use lib.Dec.{leb}
 use lib.ListN.{length, getD}
-use Rattle.race.specs.Race.{Guess, silent, says, Event, raceOver}
+use Rattle.race.specs.Race.{Guess, silent, says, outcomeOver}
+use Rattle.race.specs.declared.Outcome.{Outcome}
 use Rattle.mcw_bits.specs.Commonest.{commonest, window}
 
 -- "Windows 63, 255, 1023, 4095."
@@ -26,6 +27,6 @@ leastSamples = size 3 + 1
 unfoldable pub said : List ℕ → ℕ → ℕ → Guess
 said s i j = cond (leb (size j) i) (says (commonest (window s i (size j)))) silent
 
--- the race: one event for each predicted place
-abbrev pub raceOf : List ℕ → List Event
-raceOf s = raceOver (length windows) firstPlace (said s) s
+-- how the race of the windows ends
+abbrev pub outcomeOf : List ℕ → Outcome
+outcomeOf s = outcomeOver (length windows) firstPlace (said s) s

@@ -19,9 +19,3 @@ pub struct Four {
     pub third: usize,
     pub fourth: usize,
 }
-
-// C and the longest run.
-pub struct Counts {
-    pub c: u64,
-    pub longest: u64,
-}

@@ -1,5 +1,4 @@
 // The whole run.
-use crate::Counts;
 use crate::Four;
 use crate::say::say_all;
 use crate::windows::majorities;
@@ -9,19 +8,21 @@ use capture::bits::first_spot;
 use capture::bits::next_spot;
 use capture::bits::wide;
 use race::Leader;
+use race::Outcome;
 use race::SILENT;
 use race::Tally;
 use race::count;
+use race::ended;
 use race::lead;
 ghost use mathlib.Core.Path.{_≡_};
 ghost use Rattle.capture.specs.inner.Spots.{Source};
 ghost use Rattle.capture.specs.Bits.{bitsOf};
-ghost use Rattle.mcw_bits.specs.inner.Counts.{countsOf};
+ghost use Rattle.mcw_bits.specs.Mcw.{outcomeOf};
 
-// C and the longest run over the first n bits of symbols, `width` bits of each.
-pub fn mcw_bits(symbols: &[u8], width: u32, n: usize) -> Counts
+// The race over the first n bits of symbols, `width` bits of each.
+pub fn mcw_bits(symbols: &[u8], width: u32, n: usize) -> Outcome
     requires { ⌜ Source (now symbols) width n ⌝ }
-    ensures { λ r. ⌜ r ≡ countsOf (bitsOf (now (symbols .entry)) width n) ⌝ }
+    ensures { λ r. ⌜ r ≡ outcomeOf (bitsOf (now (symbols .entry)) width n) ⌝ }
 {
     let mut ring = [0u8; 4096];
     let mut ones = Four {
@@ -52,8 +53,5 @@ pub fn mcw_bits(symbols: &[u8], width: u32, n: usize) -> Counts
         spot = next_spot(width, spot);
         i += 1;
     }
-    Counts {
-        c: t.hits,
-        longest: t.longest,
-    }
+    ended(t, leader, &scores)
 }

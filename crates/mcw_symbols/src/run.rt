@@ -11,18 +11,19 @@ use crate::windows::enter;
 use crate::windows::leave_all;
 use capture::bits::wide;
 use lanes::part::spread;
-use mcw_bits::Counts;
 use race::Leader;
+use race::Outcome;
 use race::Tally;
 use race::count;
+use race::ended;
 ghost use mathlib.Core.Path.{_≡_};
-ghost use Rattle.mcw_bits.specs.inner.Counts.{countsOf};
+ghost use Rattle.mcw_bits.specs.Mcw.{outcomeOf};
 ghost use Rattle.mcw_symbols.specs.inner.Samples.{Samples};
 
-// C and the longest run over s, whose samples are below k.
-pub fn mcw_symbols(s: &[u8], k: usize) -> Counts
+// The race over s, whose samples are below k.
+pub fn mcw_symbols(s: &[u8], k: usize) -> Outcome
     requires { ⌜ Samples (now s) k ⌝ }
-    ensures { λ r. ⌜ r ≡ countsOf (now (s .entry)) ⌝ }
+    ensures { λ r. ⌜ r ≡ outcomeOf (now (s .entry)) ⌝ }
 {
     let mut cnt = [0u64; 256];
     let mut latest = [0u64; 256];
@@ -54,8 +55,5 @@ pub fn mcw_symbols(s: &[u8], k: usize) -> Counts
         c = advance(asked, alike, xs, gone, key);
         i += 1;
     }
-    Counts {
-        c: t.hits,
-        longest: t.longest,
-    }
+    ended(t, leader, &scores)
 }

@@ -6,11 +6,11 @@ use Rattle.race.specs.Race.{predictions, scored, standing, event, events, hits,
 use Rattle.mmc_bits.specs.Levels.{levels, cap, firstPlace}
 use Rattle.mmc_bits.specs.Counters.{before, context, pair, places, occurs, fresh, ahead, counter}
 use Rattle.mmc_bits.specs.Guesses.{verdict, own, guess}
-use Rattle.mmc_bits.specs.Mmc.{raceOf}
+use Rattle.mmc_bits.specs.Mmc.{outcomeOf}
 
 -- C, N and the longest run
 row : ℕ → ℕ → List ℕ → List ℕ
-row n cap b = hits (raceOf n cap b) ∷ predictions firstPlace b ∷ longest (raceOf n cap b) ∷ []
+row n cap b = outcomeOf n cap b .hits ∷ predictions firstPlace b ∷ outcomeOf n cap b .longest ∷ []
 
 -- the rows of document 01 on bits: 0000, 0101, 0011, 00101, 0001, 0110
 rows : map (row levels cap)

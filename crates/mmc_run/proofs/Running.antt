@@ -19,15 +19,16 @@ use Rattle.race.specs.Race.{Guess, judge, sample}
 use Rattle.race.specs.inner.Held.{counterLimit}
 use Rattle.verdicts.specs.declared.Masks.{Masks}
 use Rattle.verdicts.specs.declared.Race.{Race}
-use Rattle.verdicts.specs.inner.Steps.{started, Steppable, Stepped}
+use Rattle.verdicts.specs.inner.Steps.{started, Steppable, Stepped, ended}
 use Rattle.verdicts.specs.inner.Told.{Told}
 use Rattle.verdicts.specs.inner.Racing.{Racing}
 use Rattle.verdicts.proofs.Racing.{racing-starts, racing-length, racing-ready, racing-idle, racing-next}
+use Rattle.verdicts.proofs.Ending.{racing-outcome}
 use Rattle.mmc_bits.specs.Levels.{levels, cap, firstPlace}
 use Rattle.mmc_bits.specs.Counters.{context}
 use Rattle.mmc_bits.specs.Guesses.{guess}
 use Rattle.mmc_bits.specs.Space.{span, size, final}
-use Rattle.mmc_bits.specs.inner.Tally.{tallyOf}
+use Rattle.mmc_bits.specs.Mmc.{outcomeOf}
 use Rattle.mmc_bits.specs.inner.Steps.{Bits, Before, After, distinct}
 use Rattle.race.proofs.Cases.{tested}
 use Rattle.capture.proofs.Bitstring.{bits-length, bits-at, bit-small}
@@ -75,10 +76,8 @@ module _ {symbols : List ℕ} {width n : ℕ} (S : Source symbols width n) where
       (R : Running symbols width n counters₀ counters up race spot recent stored i) where
     -- ---- at the end
 
-    pub running-ends : n ≤ i → race .tally ≡ tallyOf levels cap (bitsOf symbols width n)
-    running-ends h =
-        let e : i - firstPlace ≡ length (bitsOf symbols width n) - firstPlace = omega (arith, R .some, bits-length symbols width n) in
-        (rw e at (R .raced)) .tally-is
+    pub running-ends : n ≤ i → ended race ≡ outcomeOf levels cap (bitsOf symbols width n)
+    running-ends h = racing-outcome (bitsOf symbols width n) (R .raced) (omega (arith, R .some, bits-length symbols width n))
 
     pub running-leaves : n ≤ i → counters ≡ final levels cap (bitsOf symbols width n) counters₀
     running-leaves h =

@@ -5,7 +5,8 @@ use capture::bits::next_spot;
 use mmc_bits::Counter;
 use mmc_bits::clear::clear;
 use mmc_bits::place::place;
-use race::Tally;
+use race::Outcome;
+use verdicts::place::ended;
 use verdicts::place::start;
 use verdicts::place::step;
 ghost use mathlib.Core.Path.{_≡_};
@@ -15,8 +16,8 @@ ghost use Prim.Native.Nat.{_≤_};
 ghost use Rattle.capture.specs.inner.Spots.{Source};
 ghost use Rattle.capture.specs.Bits.{bitsOf};
 ghost use Rattle.mmc_bits.specs.Levels.{levels, cap};
+ghost use Rattle.mmc_bits.specs.Mmc.{outcomeOf};
 ghost use Rattle.mmc_bits.specs.Space.{size, final};
-ghost use Rattle.mmc_bits.specs.inner.Tally.{tallyOf};
 
 // How many counters sixteen levels have.
 const SIZE: usize = 262_140;
@@ -33,10 +34,10 @@ fn clear_levels(counters: &mut [Counter], count: usize)
 }
 
 // All places, one after the other, from cleared counters on.
-fn run(symbols: &[u8], width: u32, n: usize, counters: &mut [Counter]) -> Tally
+fn run(symbols: &[u8], width: u32, n: usize, counters: &mut [Counter]) -> Outcome
     requires { ⌜ Source (now symbols) width n ⌝ }
     requires { ⌜ now counters ≡ replicate (size levels) 0 ++ drop (size levels) (now counters) ⌝ }
-    ensures { λ r. ⌜ r ≡ tallyOf levels cap (bitsOf (now (symbols .entry)) width n) ⌝ }
+    ensures { λ r. ⌜ r ≡ outcomeOf levels cap (bitsOf (now (symbols .entry)) width n) ⌝ }
     ensures { λ _. ⌜ now (counters .exit) ≡ final levels cap (bitsOf (now (symbols .entry)) width n) (now (counters .entry)) ⌝ }
 {
     let mut up = [0u64; 16];
@@ -55,15 +56,15 @@ fn run(symbols: &[u8], width: u32, n: usize, counters: &mut [Counter]) -> Tally
         spot = next_spot(width, spot);
         i += 1;
     }
-    race.tally
+    ended(race)
 }
 
 // MultiMMC over the first `n` bits of `symbols`, `width` to a symbol. Space need not be cleared first; the counters over all places are
 // left in the first 262,140 numbers.
-pub fn mmc_bits(symbols: &[u8], width: u32, n: usize, counters: &mut [Counter]) -> Tally
+pub fn mmc_bits(symbols: &[u8], width: u32, n: usize, counters: &mut [Counter]) -> Outcome
     requires { ⌜ Source (now symbols) width n ⌝ }
     requires { ⌜ size levels ≤ length (now counters) ⌝ }
-    ensures { λ r. ⌜ r ≡ tallyOf levels cap (bitsOf (now (symbols .entry)) width n) ⌝ }
+    ensures { λ r. ⌜ r ≡ outcomeOf levels cap (bitsOf (now (symbols .entry)) width n) ⌝ }
     ensures { λ _. ⌜ now (counters .exit) ≡ final levels cap (bitsOf (now (symbols .entry)) width n) (now (counters .entry)) ⌝ }
 {
     clear_levels(counters, SIZE);

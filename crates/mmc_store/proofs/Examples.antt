@@ -6,17 +6,17 @@ use Rattle.race.specs.Race.{scored, standing, event, events, hits, stretch, lon
 use Rattle.mmc_bits.specs.Levels.{levels, cap}
 use Rattle.mmc_store.specs.Counts.{same, present, count, largest, predicted}
 use Rattle.mmc_store.specs.Levels.{whenFound, whenAbsent, found, level, guess}
-use Rattle.mmc_store.specs.Mmc.{raceOf}
+use Rattle.mmc_store.specs.Mmc.{outcomeOf}
 
 -- document 01's literal row 10 30 10 20 10 30, numbered in rising order: a tie goes to the larger symbol
 row : List ℕ
 row = 0 ∷ 2 ∷ 0 ∷ 1 ∷ 0 ∷ 2 ∷ []
 
-row-correct : hits (raceOf levels cap row) ≡ 1
+row-correct : outcomeOf levels cap row .hits ≡ 1
 unfolding row same present count largest predicted whenFound whenAbsent found level guess scored standing event events hits
 row-correct = refl
 
-row-longest : longest (raceOf levels cap row) ≡ 1
+row-longest : outcomeOf levels cap row .longest ≡ 1
 unfolding row same present count largest predicted whenFound whenAbsent found level guess scored standing event events stretch longest
 row-longest = refl
 
@@ -24,11 +24,11 @@ row-longest = refl
 turning : List ℕ
 turning = 0 ∷ 1 ∷ 2 ∷ 0 ∷ 1 ∷ 2 ∷ 0 ∷ 1 ∷ []
 
-one-entry : hits (raceOf 2 1 turning) ≡ 2
+one-entry : outcomeOf 2 1 turning .hits ≡ 2
 unfolding turning same present count largest predicted whenFound whenAbsent found level guess scored standing event events hits
 one-entry = refl
 
-two-entries : hits (raceOf 2 2 turning) ≡ 3
+two-entries : outcomeOf 2 2 turning .hits ≡ 3
 unfolding turning same present count largest predicted whenFound whenAbsent found level guess scored standing event events hits
 two-entries = refl
 

@@ -2,4 +2,3 @@ pub mod Words
 pub mod Ways
 pub mod Answers
 pub mod Places
-pub mod Tally

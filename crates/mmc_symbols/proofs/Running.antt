@@ -10,15 +10,16 @@ use lib.Seq.{length-take-le, length-front, drop-append-add, drop-drop}
 use borrow.Author.Tests.{le-ltb}
 use Rattle.capture.specs.Limit.{symbolLimit}
 use Rattle.race.specs.Race.{none, judge, sample}
-use Rattle.race.specs.inner.Held.{heard, heardFrom, verdictsOn, settled, after, tallied, counterLimit, Countable, Led, Leadable}
+use Rattle.race.specs.inner.Held.{heard, heardFrom, verdictsOn, settled, after, tallied, counterLimit, Countable, Led, Leadable, ended}
 use Rattle.race.specs.declared.Leader.{Leader}
 use Rattle.race.specs.declared.Tally.{Tally}
 use Rattle.race.proofs.Step.{Raced, race-starts, race-length, race-winner, race-countable, race-leadable, race-idle, race-step}
+use Rattle.race.proofs.Ending.{raced-outcome}
 use Rattle.mmc_bits.specs.Levels.{firstPlace}
 use Rattle.table.specs.inner.Table as T
 use Rattle.mmc_store.specs.Levels.{level, guess}
 use Rattle.mmc_store.specs.inner.Places.{tables, reached, Held, Spots, Stands, Place, Said}
-use Rattle.mmc_store.specs.inner.Tally.{tallyOf}
+use Rattle.mmc_store.specs.Mmc.{outcomeOf}
 use Rattle.mmc_store.specs.Space.{size, final}
 use Rattle.mmc_store.proofs.Small.{limit-is}
 use Rattle.mmc_store.proofs.Few.{few-empty}
@@ -131,10 +132,8 @@ module _ {n cap : ℕ} {s space es nodes scores : List ℕ} {leader : Leader} {t
         }
 
   -- after the last place
-  pub run-tally : length s ≤ i → tally ≡ tallyOf n cap s
-  run-tally l =
-      let e : i ≡ length s = omega (arith, r .within) in
-      rw (← e, ← r .raced .hits-are, ← r .raced .run-is, ← r .raced .longest-is)
+  pub run-ends : length s ≤ i → ended tally leader scores ≡ outcomeOf n cap s
+  run-ends l = raced-outcome n firstPlace (guess cap s) s (r .raced) (omega (arith, r .within))
 
 -- ---- the first a numbers of the space are lent to the run, which leaves m there, and then the first b are cleared: z
 pub record Lent (n a b : ℕ) (xs : List ℕ) : Type 0 where

@@ -2,16 +2,18 @@
 use mmc_bits::clear::clear;
 use mmc_store::place::at_place;
 use race::Leader;
+use race::Outcome;
 use race::SILENT;
 use race::Tally;
 use race::count;
+use race::ended;
 use race::lead;
 ghost use mathlib.Core.Path.{_≡_};
 ghost use Prim.Native.Nat.{_≤_};
 ghost use lib.ListN.{length};
 ghost use Rattle.capture.specs.Limit.{symbolLimit};
 ghost use Rattle.mmc_bits.specs.Levels.{levels, cap};
-ghost use Rattle.mmc_store.specs.inner.Tally.{tallyOf};
+ghost use Rattle.mmc_store.specs.Mmc.{outcomeOf};
 ghost use Rattle.mmc_store.specs.Space.{size, final};
 ghost use Rattle.mmc_store.specs.inner.Places.{store};
 
@@ -21,9 +23,9 @@ const SIZE: usize = 16_777_216;
 const STORE: usize = 11_141_120;
 
 // All places, one after the other, from cleared numbers on.
-fn run(s: &[u8], space: &mut [u32]) -> Tally
+fn run(s: &[u8], space: &mut [u32]) -> Outcome
     requires { ⌜ (length (now s) ≤ symbolLimit) × (length (now space) ≡ store) ⌝ }
-    ensures { λ r. ⌜ r ≡ tallyOf levels cap (now (s .entry)) ⌝ }
+    ensures { λ r. ⌜ r ≡ outcomeOf levels cap (now (s .entry)) ⌝ }
 {
     clear(space);
     let mut entries = [0usize; 16];
@@ -45,16 +47,16 @@ fn run(s: &[u8], space: &mut [u32]) -> Tally
         leader = lead(&mut scores, &guesses, leader, x);
         place += 1;
     }
-    tally
+    ended(tally, leader, &scores)
 }
 
 // MultiMMC over the symbols s. Space need not be cleared first; its first 16,777,216 numbers are left zero, and all beyond unchanged.
-pub fn mmc_symbols(s: &[u8], space: &mut [u32]) -> Tally
+pub fn mmc_symbols(s: &[u8], space: &mut [u32]) -> Outcome
     requires { ⌜ (length (now s) ≤ symbolLimit) × (size levels ≤ length (now space)) ⌝ }
-    ensures { λ r. ⌜ r ≡ tallyOf levels cap (now (s .entry)) ⌝ }
+    ensures { λ r. ⌜ r ≡ outcomeOf levels cap (now (s .entry)) ⌝ }
     ensures { λ _. ⌜ now (space .exit) ≡ final levels (now (space .entry)) ⌝ }
 {
-    let tally = run(s, &mut space[0..STORE]);
+    let outcome = run(s, &mut space[0..STORE]);
     clear(&mut space[0..SIZE]);
-    tally
+    outcome
 }

@@ -15,17 +15,16 @@ use Rattle.capture.specs.Bits.{bitsOf}
 use Rattle.capture.specs.Limit.{overLimit, symbolLimit}
 use Rattle.capture.specs.Refusals.{refusedOn}
 use Rattle.capture.proofs.Bitstring.{bits-length}
-use Rattle.prediction.specs.Estimate.{estimateOf}
-use Rattle.mcw_bits.specs.inner.Counts.{countsOf}
-use Rattle.mcw_bits.specs.Mcw.{firstPlace, leastSamples}
-use Rattle.mcw_bits.specs.declared.Counts.{Counts}
+use Rattle.race.specs.declared.Outcome.{Outcome}
+use Rattle.rating.specs.Rating.{ratingOf}
+use Rattle.mcw_bits.specs.Mcw.{firstPlace, leastSamples, outcomeOf}
 use Rattle.multi_mcw.specs.Tracks.{bitsNumber, estimated, literalNumber, mcwBits, mcwLiteral, mcwLiteralOutput}
 use Rattle.multi_mcw.proofs.Translated.{dense-length}
 
--- the estimate over samples whose counts are r
-estimate-is : (s : List ℕ) (k : ℕ) {n k′ : ℕ} {r : Counts} → r ≡ countsOf s → n ≡ length s → k′ ≡ k
-    → estimateOf (r .c) (n - firstPlace) (r .longest) k′ ≡ estimated s k
-estimate-is s k e n k′ = rw (e, n, k′)
+-- the answer over samples whose race ends in r
+rating-is : (s : List ℕ) (k : ℕ) {n k′ : ℕ} {r : Outcome} → r ≡ outcomeOf s → n ≡ length s → k′ ≡ k
+    → ratingOf r (n - firstPlace) k′ ≡ estimated s k
+rating-is s k e n k′ = rw (e, n, k′)
 
 -- ---- the bitstring track
 
@@ -34,11 +33,11 @@ module _ (s : List ℕ) (w : ℕ) {n : ℕ} (e : n ≡ bitsNumber s w) where
   unfolding mcwBits
   bits-refused d p = rw (ne-eqb (bitsNumber s w) 0 (λ q. d (e ∙ q))) (p ∙ ap (refusedOn s) e)
 
-  pub bits-ran : n ≡ 0 → {r : Counts} → r ≡ countsOf (bitsOf s w (length s * w))
-      → estimateOf (r .c) (length s * w - firstPlace) (r .longest) 2 ≡ mcwBits s w
+  pub bits-ran : n ≡ 0 → {r : Outcome} → r ≡ outcomeOf (bitsOf s w (length s * w))
+      → ratingOf r (length s * w - firstPlace) 2 ≡ mcwBits s w
   unfolding mcwBits
   bits-ran z re =
-      rw (eq-eqb (bitsNumber s w) 0 (sym e ∙ z)) (estimate-is (bitsOf s w (length s * w)) 2 re (sym (bits-length s w (length s * w))) refl)
+      rw (eq-eqb (bitsNumber s w) 0 (sym e ∙ z)) (rating-is (bitsOf s w (length s * w)) 2 re (sym (bits-length s w (length s * w))) refl)
 
 -- ---- the literal track
 
@@ -70,9 +69,9 @@ module _ (s out : List ℕ) {n : ℕ} (e : n ≡ literalNumber s out) where
       let f : eqb (literalNumber s out) done ≡ false = ne-eqb (literalNumber s out) 0 (λ q. d (e ∙ q)) in
       (rw f (p ∙ ap refused e), rw f)
 
-  pub literal-ran : n ≡ 0 → {k : ℕ} {r : Counts} {out′ : List ℕ} → k ≡ distinct s → r ≡ countsOf (dense s) → out′ ≡ written (dense s) out
-      → Answered (estimateOf (r .c) (length s - firstPlace) (r .longest) k) out′
+  pub literal-ran : n ≡ 0 → {k : ℕ} {r : Outcome} {out′ : List ℕ} → k ≡ distinct s → r ≡ outcomeOf (dense s) → out′ ≡ written (dense s) out
+      → Answered (ratingOf r (length s - firstPlace) k) out′
   unfolding mcwLiteral mcwLiteralOutput
   literal-ran z ke re oe =
       let f : eqb (literalNumber s out) done ≡ true = eq-eqb (literalNumber s out) 0 (sym e ∙ z) in
-      (rw f (estimate-is (dense s) (distinct s) re (sym (dense-length s)) ke), rw f oe)
+      (rw f (rating-is (dense s) (distinct s) re (sym (dense-length s)) ke), rw f oe)

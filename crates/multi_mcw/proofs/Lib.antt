@@ -1,3 +1,4 @@
 pub mod Translated
 pub mod Answers
 pub mod Ran
+pub mod Who

@@ -1,5 +1,5 @@
 -- The counts of MultiMCW can be, so that the estimate never refuses them: an answer's number is that of the track's own refusals, or 0. Assumes nothing.
-use mathlib.Core.Path.{_≡_}
+use mathlib.Core.Path.{_≡_, _∙_}
 use mathlib.Core.Bool.{false, _&&_}
 use mathlib.Core.List.{List}
 use Prim.Native.Nat.{ℕ, _*_, _-_, _≤_, _<_}
@@ -19,9 +19,9 @@ use Rattle.counts.specs.Counts.{countLimit, impossibleCounts}
 use Rattle.prediction.specs.Estimate.{estimateOf, estimatedOf}
 use Rattle.race.proofs.Cases.{tested}
 use Rattle.race.proofs.Standing.{correct-le, run-le-correct, correct-run}
-use Rattle.mcw_bits.specs.inner.Counts.{countsOf}
 use Rattle.race.specs.Race.{sample, predictions}
-use Rattle.mcw_bits.specs.Mcw.{firstPlace, said, leastSamples}
+use Rattle.rating.proofs.Rated.{rated-number}
+use Rattle.mcw_bits.specs.Mcw.{firstPlace, said, leastSamples, outcomeOf}
 use Rattle.multi_mcw.specs.Tracks.{estimated, literalNumber, mcwLiteral}
 use Rattle.multi_mcw.proofs.Translated.{dense-length, dense-samples}
 
@@ -39,9 +39,9 @@ can-be c n run k a b f d e g = rw (le-ltb n c a, le-ltb c run b, some-run c run 
 
 -- C <= N, run <= C, and C > 0 implies run > 0
 module _ (s : List ℕ) (k : ℕ) (least : 1 ≤ k) (most : k ≤ 256) (few : length s ≤ countLimit) where
-  pub counts-can-be : impossibleCounts (countsOf s .c) (predictions firstPlace s) (countsOf s .longest) k ≡ false
+  pub counts-can-be : impossibleCounts (outcomeOf s .hits) (predictions firstPlace s) (outcomeOf s .longest) k ≡ false
   counts-can-be =
-      can-be (countsOf s .c) (predictions firstPlace s) (countsOf s .longest) k
+      can-be (outcomeOf s .hits) (predictions firstPlace s) (outcomeOf s .longest) k
       (correct-le 4 63 (said s) (sample s) (predictions firstPlace s))
       (run-le-correct 4 63 (said s) (sample s) (predictions firstPlace s))
       (correct-run 4 63 (said s) (sample s) (predictions firstPlace s))
@@ -49,7 +49,7 @@ module _ (s : List ℕ) (k : ℕ) (least : 1 ≤ k) (most : k ≤ 256) (few : le
 
   pub ran : estimated s k .number ≡ done
   unfolding estimateOf estimatedOf
-  ran = rw counts-can-be
+  ran = rated-number (outcomeOf s) (predictions firstPlace s) k ∙ rw counts-can-be
 
 pub bits-ran : (s : List ℕ) (w : ℕ) → length s ≤ symbolLimit → Width w → estimated (bitsOf s w (length s * w)) 2 .number ≡ done
 bits-ran s w fits width =

@@ -11,13 +11,13 @@ use Rattle.alphabet.specs.Alphabet.{dense, distinct, written}
 use Rattle.capture.specs.Bits.{bitCount, bitsOf}
 use Rattle.capture.specs.Limit.{overLimit}
 use Rattle.capture.specs.Refusals.{bitsRefusal, refusedOn}
-use Rattle.prediction.specs.Estimate.{estimateOf}
-use Rattle.race.specs.Race.{hits, longest, predictions}
-use Rattle.mcw_bits.specs.Mcw.{firstPlace, leastSamples, raceOf}
+use Rattle.race.specs.Race.{predictions}
+use Rattle.rating.specs.Rating.{ratingOf}
+use Rattle.mcw_bits.specs.Mcw.{firstPlace, leastSamples, outcomeOf}
 
--- the estimate from the race over a list of samples of k symbols: C, N and the longest run
+-- the answer from the race over a list of samples of k symbols: C, N, the longest run, and who won
 abbrev pub estimated : List ℕ → ℕ → Answer
-estimated s k = estimateOf (hits (raceOf s)) (predictions firstPlace s) (longest (raceOf s)) k
+estimated s k = ratingOf (outcomeOf s) (predictions firstPlace s) k
 
 -- the bitstring track: "A sample is a bit", and "k is 2 on bits"
 abbrev pub bitsNumber : List ℕ → ℕ → ℕ

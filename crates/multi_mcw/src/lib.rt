@@ -9,17 +9,17 @@ use capture::bits::SYMBOL_LIMIT;
 use capture::refusal::bits_refusal;
 use capture::refusal::refused_on;
 use dense::dense_alphabet;
-use mcw_bits::Counts;
 use mcw_bits::FIRST;
 use mcw_bits::FOURTH;
 use mcw_bits::run::mcw_bits;
 use mcw_symbols::run::mcw_symbols;
-use prediction::estimate::prediction_estimate;
+use race::Outcome;
+use rating::rate;
 ghost use mathlib.Core.Path.{_≡_};
 ghost use Prim.Native.Nat.{_≤_};
 ghost use lib.ListN.{length};
 ghost use Rattle.capture.specs.Limit.{symbolLimit};
-ghost use Rattle.mcw_bits.specs.inner.Counts.{countsOf};
+ghost use Rattle.mcw_bits.specs.Mcw.{outcomeOf};
 ghost use Rattle.mcw_symbols.specs.inner.Samples.{Samples};
 ghost use Rattle.multi_mcw.specs.Tracks.{literalNumber, mcwBits, mcwLiteral, mcwLiteralOutput};
 
@@ -36,7 +36,7 @@ pub fn multi_mcw(symbols: &[u8], bits_per_symbol: u8) -> Answer
     }
     let n = symbols.len() * (bits_per_symbol as usize);
     let r = mcw_bits(symbols, bits_per_symbol as u32, n);
-    prediction_estimate(r.c, (n - FIRST) as u64, r.longest, 2)
+    rate(r, (n - FIRST) as u64, 2)
 }
 
 // The number by which the literal track is refused, or 0.
@@ -54,10 +54,10 @@ fn literal_refusal(symbols: &[u8], out: &[u8]) -> u64
     }
 }
 
-// C and the longest run over k symbols numbered from 0; two values are counted as bits.
-fn mcw_translated(s: &[u8], k: u64) -> Counts
+// The race over k symbols numbered from 0; two values race as bits.
+fn mcw_translated(s: &[u8], k: u64) -> Outcome
     requires { ⌜ (length (now s) ≤ symbolLimit) × Samples (now s) k ⌝ }
-    ensures { λ r. ⌜ r ≡ countsOf (now (s .entry)) ⌝ }
+    ensures { λ r. ⌜ r ≡ outcomeOf (now (s .entry)) ⌝ }
 {
     if k <= 2 {
         return mcw_bits(s, 1, s.len());
@@ -77,5 +77,5 @@ pub fn multi_mcw_literal(symbols: &[u8], out: &mut [u8]) -> Answer
     let n = symbols.len();
     let alphabet = dense_alphabet(symbols, out);
     let r = mcw_translated(&out[..n], alphabet.size);
-    prediction_estimate(r.c, (n - FIRST) as u64, r.longest, alphabet.size)
+    rate(r, (n - FIRST) as u64, alphabet.size)
 }

@@ -8,3 +8,4 @@ pub mod Hearing
 pub mod BitCounts
 pub mod Agreeing
 pub mod TwoValues
+pub mod Who

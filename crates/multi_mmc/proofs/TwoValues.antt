@@ -1,6 +1,6 @@
 -- The two paragraphs agree: on a list of bits the general rules of MultiMMC say at each place what the bit rules say, for any cap and any number
--- of levels, so C and the longest run are the same. What is found is what is heard, and a level that is heard has the same counts by both rules.
--- Assumes nothing.
+-- of levels, so C, the longest run, the winner and its score are the same. What is found is what is heard, and a level that is heard has the same
+-- counts by both rules. Assumes nothing.
 use Prim.Native.Nat.{ℕ, zero, suc, _+_, _*_, _≤_, _<_, max}
 use mathlib.Core.Path.{_≡_, refl, sym, ap}
 use mathlib.Core.Bool.{true, cond}
@@ -11,7 +11,8 @@ use lib.Dec.{leb, ltb}
 use borrow.Author.Tests.{eq-eqb, ne-eqb, ltb-true, ltb-false, leb-true, leb-false}
 use Rattle.alphabet.specs.Alphabet.{distinct, sorted}
 use Rattle.alphabet.proofs.Alphabets.{Bytes, sorted-below}
-use Rattle.race.specs.Race.{Guess, silent, says, Event, raceOver}
+use Rattle.race.specs.declared.Outcome.{Outcome}
+use Rattle.race.specs.Race.{Guess, silent, says, outcomeOver}
 use Rattle.mmc_bits.specs.Levels.{levels, cap, firstPlace}
 use Rattle.mmc_bits.specs.Counters.{context, counter}
 use Rattle.mmc_bits.specs.Guesses.{verdict, own}
@@ -62,18 +63,18 @@ module _ (cap : ℕ) (s : List ℕ) (bits : Bits s) (i : ℕ) where
   unfolding StoreLevels.guess
   guess-same d = rw (found-is cap s bits i (agrees cap s bits i) (suc d)) (sym (heard-guess d))
 
--- so the races are the same
+-- so the races end the same
 module _ (cap : ℕ) (s : List ℕ) (bits : Bits s) where
   guesses-same : StoreLevels.guess cap s ≡ BitLevels.guess cap s
   guesses-same = λ t i d. guess-same cap s bits i d t
 
-  pub race-same : (n : ℕ) → Store.raceOf n cap s ≡ Bits.raceOf n cap s
-  race-same n = ap (λ (g : ℕ → ℕ → Guess). raceOver n firstPlace g s) guesses-same
+  pub outcome-same : (n : ℕ) → Store.outcomeOf n cap s ≡ Bits.outcomeOf n cap s
+  outcome-same n = ap (λ (g : ℕ → ℕ → Guess). outcomeOver n firstPlace g s) guesses-same
 
--- and the estimate, by the numbers in force
+-- and the answer is the same, by the numbers in force
 pub estimate-same : (s : List ℕ) → Bits s → storeEstimate s 2 ≡ bitsEstimate s
 unfolding storeEstimate bitsEstimate
-estimate-same s bits = ap (λ (es : List Event). estimated es s 2) (race-same cap s bits levels)
+estimate-same s bits = ap (λ (o : Outcome). estimated o s 2) (outcome-same cap s bits levels)
 
 -- a translated capture of at most two values is a list of bits
 sorted-bits : (s : List ℕ) → Bytes s → distinct s ≤ 2 → Bits (sorted s)

@@ -11,8 +11,9 @@ use Rattle.alphabet.specs.Alphabet.{sorted, distinct, written}
 use Rattle.capture.specs.Bits.{bitCount, bitsOf}
 use Rattle.capture.specs.Limit.{overLimit}
 use Rattle.capture.specs.Refusals.{bitsRefusal, refusedOn}
-use Rattle.prediction.specs.Estimate.{estimateOf}
-use Rattle.race.specs.Race.{Event, hits, longest, predictions}
+use Rattle.race.specs.Race.{predictions}
+use Rattle.race.specs.declared.Outcome.{Outcome}
+use Rattle.rating.specs.Rating.{ratingOf}
 use Rattle.mmc_bits.specs.Levels.{levels, cap, firstPlace}
 use Rattle.mmc_bits.specs.Mmc as Bits
 use Rattle.mmc_bits.specs.Space as BitSpace
@@ -23,16 +24,16 @@ use Rattle.mmc_store.specs.Space as StoreSpace
 abbrev pub leastSamples : ℕ
 leastSamples = 4
 
--- the estimate from a race over a list of samples of k symbols: C, N and the longest run; "N = length - 2"
-abbrev pub estimated : List Event → List ℕ → ℕ → Answer
-estimated events s k = estimateOf (hits events) (predictions firstPlace s) (longest events) k
+-- the answer from a race over a list of samples of k symbols: C, N, the longest run, and who won; "N = length - 2"
+abbrev pub estimated : Outcome → List ℕ → ℕ → Answer
+estimated outcome s k = ratingOf outcome (predictions firstPlace s) k
 
 -- that of a list of bits, and of a list of more than two values
 unfoldable pub bitsEstimate : List ℕ → Answer
-bitsEstimate b = estimated (Bits.raceOf levels cap b) b 2
+bitsEstimate b = estimated (Bits.outcomeOf levels cap b) b 2
 
 unfoldable pub storeEstimate : List ℕ → ℕ → Answer
-storeEstimate s k = estimated (Store.raceOf levels cap s) s k
+storeEstimate s k = estimated (Store.outcomeOf levels cap s) s k
 
 -- the bitstring track: "A sample is a bit", "Binary MultiMMC needs 262,140 u32 counters"
 abbrev pub bitsOfCapture : List ℕ → ℕ → List ℕ

@@ -1,8 +1,8 @@
-// The estimate over a track's samples: the race, and then the shared estimate.
+// The answer over a track's samples: the race, and what it comes to.
 use answer::Answer;
 use mmc_run::mmc_bits;
 use mmc_symbols::mmc_symbols;
-use prediction::estimate::prediction_estimate;
+use rating::rate;
 ghost use mathlib.Core.Path.{_≡_};
 ghost use Prim.Native.Nat.{_≤_};
 ghost use lib.ListN.{length};
@@ -23,8 +23,8 @@ pub fn bits_estimate(symbols: &[u8], width: u32, n: usize, counters: &mut [u32])
     ensures { λ r. ⌜ r ≡ bitsEstimate (bitsOf (now (symbols .entry)) width n) ⌝ }
     ensures { λ _. ⌜ now (counters .exit) ≡ BitSpace.final levels cap (bitsOf (now (symbols .entry)) width n) (now (counters .entry)) ⌝ }
 {
-    let t = mmc_bits(symbols, width, n, counters);
-    prediction_estimate(t.hits, (n - FIRST_PLACE) as u64, t.longest, 2)
+    let outcome = mmc_bits(symbols, width, n, counters);
+    rate(outcome, (n - FIRST_PLACE) as u64, 2)
 }
 
 // Over `samples`, of which k are distinct.
@@ -33,7 +33,7 @@ pub fn store_estimate(samples: &[u8], k: u64, space: &mut [u32]) -> Answer
     ensures { λ r. ⌜ r ≡ storeEstimate (now (samples .entry)) k ⌝ }
     ensures { λ _. ⌜ now (space .exit) ≡ StoreSpace.final levels (now (space .entry)) ⌝ }
 {
-    let t = mmc_symbols(samples, space);
+    let outcome = mmc_symbols(samples, space);
     let n = samples.len() - FIRST_PLACE;
-    prediction_estimate(t.hits, n as u64, t.longest, k)
+    rate(outcome, n as u64, k)
 }

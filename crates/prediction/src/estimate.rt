@@ -124,6 +124,8 @@ fn estimated(c: u64, n: u64, max_run_len: u64, k: u64) -> Answer
         place: 0,
         k,
         rounds: solved.rounds,
+        winner: 0,
+        score: 0,
         estimate,
     }
 }

@@ -3,4 +3,5 @@ pub mod Trace
 pub mod Standing
 pub mod Held
 pub mod Step
+pub mod Ending
 pub mod Examples

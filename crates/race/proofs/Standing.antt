@@ -8,10 +8,9 @@ use native.Mathlib.Numerals.{add-one}
 use lib.Dec.{leb}
 use lib.ListN.{length, getD, set, replicate, length-set, length-replicate, length-append, List·getD-append}
 use lib.Seq.{getD-set-same, getD-set-other, getD-at}
-use Rattle.race.specs.inner.Ends.{finalScore}
 use Rattle.race.specs.inner.Held.{settled}
 use Rattle.race.specs.Race.{Guess, silent, Verdict, hit, miss, none, judge, Standing, point, settle, scored, Event, longest}
-use Rattle.race.specs.Race.{standing, event, events, hits}
+use Rattle.race.specs.Race.{standing, event, events, hits, finalScore}
 use Rattle.race.proofs.Cases.{same?}
 use Rattle.race.proofs.Trace.{hits-le, longest-le-hits, hits-longest}
 

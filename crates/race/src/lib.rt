@@ -1,8 +1,9 @@
 // Sub-predictors compete: the winner, the scores, the hits and the longest run. MultiMCW runs it with four windows, MultiMMC with sixteen levels.
 ghost use mathlib.Core.Path.{_≡_};
+ghost use Prim.Native.Nat.{_<_};
 ghost use lib.ListN.{length};
 ghost use Rattle.race.specs.Race.{judge};
-ghost use Rattle.race.specs.inner.Held.{Countable, Leadable, Led, after, heard, settled, tallied, verdictsOn};
+ghost use Rattle.race.specs.inner.Held.{Countable, Leadable, Led, after, ended, heard, settled, tallied, verdictsOn};
 
 // The guess of a sub-predictor that does not take part.
 pub const SILENT: u16 = 256;
@@ -66,4 +67,26 @@ pub fn lead(scores: &mut [u64], guesses: &[u16], leader: Leader, x: u16) -> Lead
         j += 1;
     }
     Leader { winner, bar }
+}
+
+// How a race ends: C, the longest run, the winner counted from 1, and its score.
+pub struct Outcome {
+    pub hits: u64,
+    pub longest: u64,
+    pub winner: u64,
+    pub score: u64,
+}
+
+// The outcome of the counts and the standing after the last place.
+pub fn ended(t: Tally, leader: Leader, scores: &[u64]) -> Outcome
+    requires { ⌜ leader .winner < length (now scores) ⌝ }
+    ensures { λ r. ⌜ r ≡ ended t leader (now (scores .entry)) ⌝ }
+{
+    let winner = leader.winner;
+    Outcome {
+        hits: t.hits,
+        longest: t.longest,
+        winner: winner as u64 + 1,
+        score: scores[winner],
+    }
 }

@@ -1,125 +1,150 @@
--- What a reading is by its two tests, and what the writer does by its three. Assumes nothing.
+-- Which kind of record stands at the start, what a reading is by its two tests, and what the writer does by its three. Assumes nothing.
 use mathlib.Core.Path.{_≡_, refl, sym, ap, _∙_}
-use mathlib.Core.Bool.{Bool, true, false, cond}
+use mathlib.Core.Bool.{Bool, true, false, cond, false≢true}
 use mathlib.Core.List.{List}
+use mathlib.Core.Logic.{_⊎_, inl, inr}
 use Prim.Native.Nat.{ℕ, _≤_}
 use native.Mathlib.Omega.{arith}
 use borrow.Author.Tests.{eq-eqb, ne-eqb, ltb-false}
-use lib.Dec.{eqb, ltb}
+use lib.Dec.{ltb}
 use lib.ListN.{length}
 use Rattle.answer.specs.Numbers.{done, tooShort, badFrame, badAnswer}
 use Rattle.answer.specs.declared.Answer.{Answer}
-use Rattle.envelope.specs.Envelope.{following, framed, putAtStart}
-use Rattle.envelope.proofs.Envelope.{framed-long, record-length}
-use Rattle.recordable.specs.Recordable.{recordable}
-use Rattle.fields.specs.Fields.{answerFields, answerIn, answerKind, answerRecord, answerSize}
-use Rattle.record.specs.Record.{extentOf, needed, notRead, readingOf, wasRead, writeNumber, writtenIn, writtenOf}
-use Rattle.record.specs.declared.Extent.{Extent}
+use Rattle.envelope.specs.Envelope.{following, putAtStart}
+use Rattle.envelope.proofs.Envelope.{framed-is, framed-long, record-length}
+use Rattle.fields.specs.Fields.{answerKind, answerRecord, answerSize, fieldsOf, isKind, namedKind}
+use Rattle.fields.proofs.Telling.{kind-is}
+use Rattle.recordable.specs.declared.Held.{Held}
+use Rattle.record.specs.Record.{answerHeld, framedAs, heldIn, holds, kindIn, notRead, readingOf, wasRead, writeNumber, writtenIn, writtenOf}
 use Rattle.record.specs.declared.Reading.{Reading}
 
 -- how many bytes a record takes
-pub answer-length : (a : Answer) → length (answerRecord a) ≡ answerSize
-answer-length a = record-length answerKind answerFields a
+pub answer-length : (kind : ℕ) (a : Answer) → length (answerRecord kind a) ≡ answerSize kind
+answer-length kind a = record-length kind (fieldsOf kind) a
+
+-- ---- the kind of the record at the start
+module _ (bytes : List ℕ) where
+  -- a record is of one kind only
+  not-another : (kind other : ℕ) → (kind ≡ other → ⊥) → framedAs kind bytes ≡ true → framedAs other bytes ≡ false
+  not-another kind other differ f = by (framedAs other bytes) refl
+    where
+      by : (b : Bool) → framedAs other bytes ≡ b → b ≡ false
+      by true e =
+          absurd (differ (sym (framed-is kind (following (fieldsOf kind)) bytes f .named)
+          ∙ framed-is other (following (fieldsOf other)) bytes e .named))
+      by false e = refl
+
+  pub framed-kind : (kind : ℕ) → isKind kind ≡ true → framedAs kind bytes ≡ true → kindIn bytes ≡ kind
+  unfolding kindIn
+  framed-kind kind k f = by (kind-is kind k)
+    where
+      by : (kind ≡ answerKind) ⊎ (kind ≡ namedKind) → kindIn bytes ≡ kind
+      by (inl e) = let first : framedAs answerKind bytes ≡ true = rw e at f in simp first (sym e)
+      by (inr e) =
+          let second : framedAs namedKind bytes ≡ true = rw e at f in
+          simp (not-another namedKind answerKind (λ d. omega arith) second, second) (sym e)
+
+  pub kind-framed : isKind (kindIn bytes) ≡ true → framedAs (kindIn bytes) bytes ≡ true
+  unfolding kindIn isKind
+  kind-framed h = by (framedAs answerKind bytes) (framedAs namedKind bytes) refl refl h
+    where
+      by : (b c : Bool) → framedAs answerKind bytes ≡ b → framedAs namedKind bytes ≡ c →
+          isKind (cond b answerKind (cond c namedKind 0)) ≡ true → framedAs (cond b answerKind (cond c namedKind 0)) bytes ≡ true
+      by true c p q h = p
+      by false true p q h = q
+      by false false p q h = absurd (false≢true h)
+
+  pub kind-long : isKind (kindIn bytes) ≡ true → answerSize (kindIn bytes) ≤ length bytes
+  kind-long h = framed-long (kindIn bytes) (following (fieldsOf (kindIn bytes))) bytes (kind-framed h)
 
 -- ---- the reader
-abbrev readBy : Bool → Bool → Answer → Reading
-readBy f r a = cond f (cond r (wasRead a) (notRead badAnswer)) (notRead badFrame)
+abbrev pub readBy : ℕ → Bool → Bool → Held → Reading
+readBy kind f r h = cond f (cond r (wasRead kind h) (notRead badAnswer)) (notRead badFrame)
 
-tests : (f r : Bool) (a : Answer) → readBy f r a .number ≡ done → (f ≡ true) × (r ≡ true)
-tests true true a h = (refl, refl)
-tests true false a h = absurd (omega arith)
-tests false r a h = absurd (omega arith)
+tests : (kind : ℕ) (f r : Bool) (h : Held) → readBy kind f r h .number ≡ done → (f ≡ true) × (r ≡ true)
+tests kind true true h e = (refl, refl)
+tests kind true false h e = absurd (omega arith)
+tests kind false r h e = absurd (omega arith)
 
-no-size : (f r : Bool) (a : Answer) → (readBy f r a .number ≡ done → ⊥) → readBy f r a .size ≡ 0
-no-size true true a h = absurd (h refl)
-no-size true false a h = refl
-no-size false r a h = refl
-
--- all but the answer
-abbrev extent : ℕ → ℕ → Extent
-extent n s = record { number = n; size = s }
-
-abbrev pub extentBy : Bool → Bool → Extent
-extentBy f r = cond f (cond r (extent done answerSize) (extent badAnswer 0)) (extent badFrame 0)
-
-extents : (f r : Bool) (a : Answer) → extent (readBy f r a .number) (readBy f r a .size) ≡ extentBy f r
-extents true true a = refl
-extents true false a = refl
-extents false r a = refl
-
-is-refusal : (f r : Bool) (a : Answer) → (readBy f r a .number ≡ done → ⊥) → readBy f r a ≡ notRead (readBy f r a .number)
-is-refusal true true a h = absurd (h refl)
-is-refusal true false a h = refl
-is-refusal false r a h = refl
+no-size : (kind : ℕ) (f r : Bool) (h : Held) → (readBy kind f r h .number ≡ done → ⊥) → readBy kind f r h .size ≡ 0
+no-size kind true true h e = absurd (e refl)
+no-size kind true false h e = refl
+no-size kind false r h e = refl
 
 module _ (bytes : List ℕ) where
-  pub by-tests : {f r : Bool} → framed answerKind (following answerFields) bytes ≡ f → recordable (answerIn bytes) ≡ r →
-      readingOf bytes ≡ cond f (cond r (wasRead (answerIn bytes)) (notRead badAnswer)) (notRead badFrame)
+  pub by-tests : {kind : ℕ} {f r : Bool} {h : Held} → kindIn bytes ≡ kind → heldIn kind bytes ≡ h → isKind kind ≡ f → holds kind h ≡ r →
+      readingOf bytes ≡ readBy kind f r h
   unfolding readingOf
-  by-tests {f} {r} p q =
-      ap (λ (b : Bool). readBy b (recordable (answerIn bytes)) (answerIn bytes)) p ∙ ap (λ (b : Bool). readBy f b (answerIn bytes)) q
+  by-tests {kind} {f} {r} {h} is has p q =
+      ap (λ (k : ℕ). readBy k (isKind k) (holds k (heldIn k bytes)) (heldIn k bytes)) is
+      ∙ ap (λ (x : Held). readBy kind (isKind kind) (holds kind x) x) has
+      ∙ ap (λ (b : Bool). readBy kind b (holds kind h) h) p
+      ∙ ap (λ (b : Bool). readBy kind f b h) q
 
-  pub extent-by : {f r : Bool} → framed answerKind (following answerFields) bytes ≡ f → recordable (answerIn bytes) ≡ r →
-      extentOf bytes ≡ extentBy f r
-  extent-by {f} {r} p q = ap (λ (t : Reading). extent (t .number) (t .size)) (by-tests p q) ∙ extents f r (answerIn bytes)
+  -- what the record at the start holds
+  abbrev pub held : Held
+  held = heldIn (kindIn bytes) bytes
 
-  pub reading-tests : readingOf bytes .number ≡ done → (framed answerKind (following answerFields) bytes ≡ true) × (recordable (answerIn bytes) ≡ true)
+  pub reading-tests : readingOf bytes .number ≡ done → (isKind (kindIn bytes) ≡ true) × (holds (kindIn bytes) held ≡ true)
   unfolding readingOf
-  reading-tests h = tests (framed answerKind (following answerFields) bytes) (recordable (answerIn bytes)) (answerIn bytes) h
+  reading-tests h = tests (kindIn bytes) (isKind (kindIn bytes)) (holds (kindIn bytes) held) held h
 
-  pub reading-is : readingOf bytes .number ≡ done → readingOf bytes ≡ wasRead (answerIn bytes)
-  reading-is h = let t = reading-tests h in by-tests (t .0) (t .1)
+  pub reading-is : readingOf bytes .number ≡ done → readingOf bytes ≡ wasRead (kindIn bytes) held
+  reading-is h = let t = reading-tests h in by-tests refl refl (t .0) (t .1)
 
-  pub read-recordable : readingOf bytes .number ≡ done → recordable (readingOf bytes .answer) ≡ true
-  read-recordable h = ap (λ (r : Reading). recordable (r .answer)) (reading-is h) ∙ reading-tests h .1
+  pub read-holds : readingOf bytes .number ≡ done → holds (kindIn bytes) (readingOf bytes .held) ≡ true
+  read-holds h = ap (λ (r : Reading). holds (kindIn bytes) (r .held)) (reading-is h) ∙ reading-tests h .1
 
-  pub read-size : readingOf bytes .number ≡ done → readingOf bytes .size ≡ answerSize
+  pub read-size : readingOf bytes .number ≡ done → readingOf bytes .size ≡ answerSize (kindIn bytes)
   read-size h = ap (λ (r : Reading). r .size) (reading-is h)
 
-  pub read-long : readingOf bytes .number ≡ done → answerSize ≤ length bytes
-  read-long h = framed-long answerKind (following answerFields) bytes (reading-tests h .0)
+  pub read-long : readingOf bytes .number ≡ done → answerSize (kindIn bytes) ≤ length bytes
+  read-long h = kind-long bytes (reading-tests h .0)
 
   pub refused-size : (readingOf bytes .number ≡ done → ⊥) → readingOf bytes .size ≡ 0
   unfolding readingOf
-  refused-size h = no-size (framed answerKind (following answerFields) bytes) (recordable (answerIn bytes)) (answerIn bytes) h
-
-  pub refused-is : {n : ℕ} → n ≡ readingOf bytes .number → (n ≡ done → ⊥) → readingOf bytes ≡ notRead n
-  unfolding readingOf
-  refused-is {n} e h =
-      is-refusal (framed answerKind (following answerFields) bytes) (recordable (answerIn bytes)) (answerIn bytes) (λ d. h (e ∙ d))
-      ∙ ap notRead (sym e)
+  refused-size h = no-size (kindIn bytes) (isKind (kindIn bytes)) (holds (kindIn bytes) held) held h
 
 -- ---- the writer
 abbrev writeBy : Bool → Bool → Bool → ℕ
 writeBy s k r = cond s tooShort (cond k (cond r done badAnswer) badFrame)
 
-writes : (s k r : Bool) → writeBy s k r ≡ done → (s ≡ false) × (r ≡ true)
+writes : (s k r : Bool) → writeBy s k r ≡ done → (s ≡ false) × ((k ≡ true) × (r ≡ true))
 writes true k r h = absurd (omega arith)
-writes false true true h = (refl, refl)
+writes false true true h = (refl, (refl, refl))
 writes false true false h = absurd (omega arith)
 writes false false r h = absurd (omega arith)
 
-module _ (a : Answer) (kind : ℕ) (out : List ℕ) where
-  write-tests : writeNumber a kind out ≡ done → (ltb (length out) (needed kind) ≡ false) × (recordable a ≡ true)
+module _ (h : Held) (kind : ℕ) (out : List ℕ) where
+  pub write-by : {s k r : Bool} → ltb (length out) (answerSize kind) ≡ s → isKind kind ≡ k → holds kind h ≡ r → writeNumber h kind out ≡ writeBy s k r
   unfolding writeNumber
-  write-tests h = writes (ltb (length out) (needed kind)) (eqb kind answerKind) (recordable a) h
+  write-by {s} {k} {r} p q t =
+      ap (λ (b : Bool). writeBy b (isKind kind) (holds kind h)) p
+      ∙ ap (λ (b : Bool). writeBy s b (holds kind h)) q
+      ∙ ap (λ (b : Bool). writeBy s k b) t
 
-  pub write-long : writeNumber a kind out ≡ done → answerSize ≤ length out
-  write-long h = ltb-false (length out) (needed kind) (write-tests h .0)
+  write-tests : writeNumber h kind out ≡ done → (ltb (length out) (answerSize kind) ≡ false) × ((isKind kind ≡ true) × (holds kind h ≡ true))
+  unfolding writeNumber
+  write-tests d = writes (ltb (length out) (answerSize kind)) (isKind kind) (holds kind h) d
 
-  pub write-recordable : writeNumber a kind out ≡ done → recordable a ≡ true
-  write-recordable h = write-tests h .1
+  pub write-long : writeNumber h kind out ≡ done → answerSize kind ≤ length out
+  write-long d = ltb-false (length out) (answerSize kind) (write-tests d .0)
 
-  pub written-is : writeNumber a kind out ≡ done → writtenIn a kind out ≡ putAtStart (answerRecord a) out
+  pub write-kind : writeNumber h kind out ≡ done → isKind kind ≡ true
+  write-kind d = write-tests d .1 .0
+
+  pub write-holds : writeNumber h kind out ≡ done → holds kind h ≡ true
+  write-holds d = write-tests d .1 .1
+
+  pub written-is : writeNumber h kind out ≡ done → writtenIn h kind out ≡ putAtStart (answerRecord kind (answerHeld h)) out
   unfolding writtenIn
-  written-is h = ap (λ (b : Bool). cond b (putAtStart (answerRecord a) out) out) (eq-eqb (writeNumber a kind out) done h)
+  written-is d = ap (λ (b : Bool). cond b (putAtStart (answerRecord kind (answerHeld h)) out) out) (eq-eqb (writeNumber h kind out) done d)
 
-  pub says-written : writeNumber a kind out ≡ done → writtenOf a kind out ≡ record { number = done; size = answerSize }
+  pub says-written : writeNumber h kind out ≡ done → writtenOf h kind out ≡ record { number = done; size = answerSize kind }
   unfolding writtenOf
-  says-written h = simp h
+  says-written d = simp d
 
-  pub says-refused : (n : ℕ) → n ≡ writeNumber a kind out → (n ≡ done → ⊥) →
-      (record { number = n; size = 0 } ≡ writtenOf a kind out) × (out ≡ writtenIn a kind out)
+  pub says-refused : (n : ℕ) → n ≡ writeNumber h kind out → (n ≡ done → ⊥) →
+      (record { number = n; size = 0 } ≡ writtenOf h kind out) × (out ≡ writtenIn h kind out)
   unfolding writtenOf writtenIn
-  says-refused n e h =
-      (simp (sym e, ne-eqb n done h), simp (sym e, ne-eqb n done h))
+  says-refused n e d = (simp (sym e, ne-eqb n done d), simp (sym e, ne-eqb n done d))

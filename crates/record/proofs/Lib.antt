@@ -1,2 +1,3 @@
 pub mod Cases
+pub mod Kept
 pub mod Trip

@@ -2,7 +2,7 @@
 -- By the limits that the crates of the numbers state, and since no comparison of a NaN holds. Assumes nothing.
 use mathlib.Core.Path.{_≡_, refl}
 use mathlib.Core.Bool.{Bool, true, false, not, _&&_, _||_, cond, and-eq-true-iff, false≢true}
-use Prim.Native.Nat.{ℕ, _^_, _<_}
+use Prim.Native.Nat.{ℕ, _^_, _≤_, _<_}
 use native.Mathlib.Omega.{arith}
 use borrow.Author.Tests.{eqb-true, leb-true, ltb-true, not-true}
 use lib.Dec.{T, eqb, leb, ltb}
@@ -19,7 +19,7 @@ use Rattle.capture.specs.Limit.{symbolLimit}
 use Rattle.counts.proofs.Refusals.{counts-can-be}
 use Rattle.counts.proofs.Whole as counts
 use Rattle.counts.specs.Counts.{impossibleCounts}
-use Rattle.recordable.specs.Recordable.{asRan, asRefused, blank, likelihoods, placed, recordable, within}
+use Rattle.recordable.specs.Recordable.{asRan, asRefused, blank, likelihoods, placed, recordable, winnerLimit, within, won}
 use Rattle.rounding.proofs.Compare.{holds}
 use Rattle.rounding.proofs.Order.{le-number}
 use Rattle.rounding.specs.Doubles.{zero, one}
@@ -153,3 +153,25 @@ recordable-bounds a h = by (eqb (a .number) done) refl h
     by : (b : Bool) → eqb (a .number) done ≡ b → cond b (asRan a) (given (a .number) && asRefused a) ≡ true → Bounds a
     by true e h = ran-bounds a (eqb-true (a .number) done e) h
     by false e h = let p = and-eq-true-iff (given (a .number)) (asRefused a) .0 h in refused-bounds a (p .0) (p .1)
+
+-- ---- who predicted
+pub record Winning (a : Answer) : Type 0 where
+  pub winner : a .winner < 256 ^ 1
+  pub score : a .score < 256 ^ 4
+
+at-most : (b : Bool) {x y top : ℕ} → x ≤ top → y ≤ top → cond b x y ≤ top
+at-most true p q = p
+at-most false p q = q
+
+pub won-bounds : (a : Answer) → a .estimate .n < 256 ^ 4 → won a ≡ true → Winning a
+unfolding won
+won-bounds a few h =
+    let highest = cond (eqb (a .number) done) winnerLimit 0 in
+    let most = cond (eqb (a .winner) 0) 0 (a .estimate .n) in
+    let p = and-eq-true-iff (leb (a .winner) highest) (leb (a .score) most) .0 h in
+    let w : highest ≤ winnerLimit = at-most (eqb (a .number) done) (omega arith) (omega arith) in
+    let s : most ≤ a .estimate .n = at-most (eqb (a .winner) 0) (omega arith) (omega arith) in
+    record {
+      winner = omega (arith, leb-true (a .winner) highest (p .0));
+      score = omega (arith, leb-true (a .score) most (p .1));
+    }

@@ -11,6 +11,8 @@ use Rattle.bisect.specs.Bisection.{roundLimit}
 use Rattle.capture.specs.Limit.{symbolLimit}
 use Rattle.counts.specs.Counts.{impossibleCounts}
 use Rattle.rounding.specs.Doubles.{zero, one, eight}
+use Rattle.recordable.specs.declared.Held.{Held}
+use Rattle.recordable.specs.declared.Held.the-variants.{Unnamed, Named}
 
 -- a float in 0..top: a NaN is not, and -0.0 is
 unfoldable pub within : Float → Float → Bool
@@ -48,3 +50,18 @@ asRefused a = placed (a .number) (a .place) && (eqb (a .k) 0 && (eqb (a .rounds)
 
 unfoldable pub recordable : Answer → Bool
 recordable a = cond (eqb (a .number) done) (asRan a) (given (a .number) && asRefused a)
+
+-- a winner is one of at most so many windows or levels
+abbrev pub winnerLimit : ℕ
+winnerLimit = 16
+
+-- "9 also for a winner above 16 (above 0 in an answer other than 0), a score above N or beside winner 0"
+unfoldable pub won : Answer → Bool
+won a =
+    leb (a .winner) (cond (eqb (a .number) done) winnerLimit 0)
+    && leb (a .score) (cond (eqb (a .winner) 0) 0 (a .estimate .n))
+
+-- whether a record that tells who predicted, or one that does not, may hold an answer: "or absent ones asked for"
+unfoldable pub holdable : Bool → Held → Bool
+holdable tells (Unnamed a) = not tells && recordable a
+holdable tells (Named a) = recordable a && won a

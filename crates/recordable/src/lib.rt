@@ -11,7 +11,16 @@ ghost use mathlib.Core.Bool.{_&&_, _||_};
 ghost use lib.Ieee.{eq};
 ghost use Rattle.answer.specs.Refused.{minusOne};
 ghost use Rattle.rounding.specs.Doubles.{one};
-ghost use Rattle.recordable.specs.Recordable.{asRan, asRefused, blank, likelihoods, placed, recordable, within};
+ghost use Rattle.recordable.specs.Recordable.{asRan, asRefused, blank, holdable, likelihoods, placed, recordable, within, won};
+
+// The windows or levels that can win are at most so many.
+const WINNER_LIMIT: u64 = 16;
+
+// An answer as a record holds it. In `Unnamed` who predicted is absent: its winner and score say nothing.
+pub enum Held {
+    Unnamed(Answer),
+    Named(Answer),
+}
 
 // A float in 0..top; a NaN is not.
 fn is_within(x: f64, top: f64) -> bool
@@ -141,4 +150,41 @@ pub fn is_recordable(a: Answer) -> bool
         return is_as_refused(a);
     }
     false
+}
+
+// Whether who predicted can be: where there is no winner there is no score, and an answer other than 0 has no winner.
+fn is_won(a: Answer) -> bool
+    ensures { λ r. ⌜ r ≡ won a ⌝ }
+{
+    let e = a.estimate;
+    if a.winner == 0 {
+        return a.score == 0;
+    }
+    if a.number != DONE {
+        return false;
+    }
+    if a.winner <= WINNER_LIMIT {
+        return a.score <= e.n;
+    }
+    false
+}
+
+// Whether a record that tells who predicted, or one that does not, may hold an answer; else it is number 9.
+pub fn is_holdable(held: Held, tells: bool) -> bool
+    ensures { λ r. ⌜ r ≡ holdable tells held ⌝ }
+{
+    match held {
+        Held::Unnamed(a) => {
+            if tells {
+                return false;
+            }
+            is_recordable(a)
+        }
+        Held::Named(a) => {
+            if is_recordable(a) {
+                return is_won(a);
+            }
+            false
+        }
+    }
 }

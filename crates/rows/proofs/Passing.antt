@@ -13,7 +13,7 @@ use lib.ListN.{length, take, drop, length-drop}
 use lib.Seq.{take-all}
 use Rattle.answer.specs.Numbers.{done}
 use Rattle.fields.specs.Fields.{answerSize}
-use Rattle.record.specs.Record.{extentOf, readingOf}
+use Rattle.record.specs.Record.{extentOf, kindIn, readingOf}
 use Rattle.record.specs.declared.Extent.{Extent}
 use Rattle.record.specs.declared.Reading.{Reading}
 use Rattle.record.proofs.Cases.{read-long, read-size, refused-size}
@@ -51,7 +51,7 @@ module _ {bytes : List ℕ} {good at : ℕ} (p : Passed bytes good at) {e : Exte
   read : readingOf (drop at bytes) .number ≡ done
   read = sym (ap (λ (x : Extent). x .number) is) ∙ h
 
-  some-bytes : (e .size ≡ answerSize) × (at + answerSize ≤ length bytes)
+  some-bytes : let size = answerSize (kindIn (drop at bytes)) in (e .size ≡ size) × (at + size ≤ length bytes)
   some-bytes = (
     ap (λ (x : Extent). x .size) is ∙ read-size (drop at bytes) read,
     omega (arith, read-long (drop at bytes) read, length-drop at bytes, p .within),

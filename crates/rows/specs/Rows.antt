@@ -6,10 +6,9 @@ use mathlib.Core.List.{List, [], _∷_, _++_}
 use lib.Dec.{eqb, leb}
 use lib.ListN.{length, drop}
 use Rattle.answer.specs.Numbers.{done}
-use Rattle.answer.specs.declared.Answer.{Answer}
-use Rattle.fields.specs.Fields.{answerRecord}
-use Rattle.record.specs.Record.{Doubles, readingOf}
-use Rattle.recordable.specs.Recordable.{recordable}
+use Rattle.fields.specs.Fields.{answerRecord, isKind}
+use Rattle.record.specs.Record.{Doubles, answerHeld, holds, readingOf}
+use Rattle.recordable.specs.declared.Held.{Held}
 use Rattle.record.specs.declared.Reading.{Reading}
 use Rattle.rows.specs.declared.Row.{Row}
 
@@ -38,12 +37,25 @@ rowOf bytes =
     let byte = startOf bytes good in
     record { good = good; number = cond (leb (length bytes) byte) done (recordAt bytes good .number); byte = byte }
 
--- the records of some answers, one after the other
-unfoldable pub recordsOf : List Answer → List ℕ
-recordsOf [] = []
-recordsOf (a ∷ answers) = answerRecord a ++ recordsOf answers
+-- what a record is written from: a kind, and what the record is to hold
+pub record Item : Type 0 where
+  pub kind : ℕ
+  pub held : Held
 
--- answers of a program, each of which a record may hold
-unfoldable pub Held : List Answer → Type 0
-Held [] = Unit
-Held (a ∷ answers) = (recordable a ≡ true) × Doubles a × Held answers
+abbrev pub bytesOf : Item → List ℕ
+bytesOf i = answerRecord (i .kind) (answerHeld (i .held))
+
+-- their records, one after the other
+unfoldable pub recordsOf : List Item → List ℕ
+recordsOf [] = []
+recordsOf (i ∷ items) = bytesOf i ++ recordsOf items
+
+-- a record of the kind may hold it, and its answer is a program's
+pub record Good (i : Item) : Type 0 where
+  pub kind : isKind (i .kind) ≡ true
+  pub held : holds (i .kind) (i .held) ≡ true
+  pub doubles : Doubles (answerHeld (i .held))
+
+unfoldable pub AllGood : List Item → Type 0
+AllGood [] = Unit
+AllGood (i ∷ items) = Good i × AllGood items

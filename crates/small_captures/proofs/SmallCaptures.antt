@@ -26,59 +26,59 @@ use Rattle.multi_mmc.specs.Tracks.{bitsEstimate, bitsNumber, bitsOfCapture, lit
 use Rattle.multi_mmc.specs.Tracks.{storeEstimate}
 use Rattle.counts.specs.Counts.{countLimit, impossibleCounts}
 use Rattle.prediction.specs.Estimate.{estimate, estimatedOf, estimateOf}
+use Rattle.race.specs.declared.Outcome.{Outcome}
 use Rattle.race.specs.Race.{event, events, hits, longest, predictions, scored, standing, stretch}
+use Rattle.rating.specs.Rating.{ratingOf}
 use Rattle.small_captures.specs.SmallCaptures.{All, Right, Track, answerOf, mmc-bits, mmc-literal, more, none, rows}
 
--- what an estimate of counts that can be holds
+-- what the answer of a race holds, where its counts can be
 pub record Holds (a : Answer) (c n run : ℕ) : Type 0 where
   pub number : a .number ≡ 0
   pub hits-are : a .estimate .c ≡ c
   pub places-are : a .estimate .n ≡ n
   pub run-is : a .estimate .«max_run_len» ≡ run
 
-holds : (c n run k : ℕ) → impossibleCounts c n run k ≡ false → Holds (estimateOf c n run k) c n run
-unfolding estimateOf estimatedOf estimate
-holds c n run k e = record { number = rw e; hits-are = rw e; places-are = rw e; run-is = rw e }
+holds : (o : Outcome) (n k : ℕ) → impossibleCounts (o .hits) n (o .longest) k ≡ false → Holds (ratingOf o n k) (o .hits) n (o .longest)
+unfolding ratingOf estimateOf estimatedOf estimate
+holds o n k e = record { number = rw e; hits-are = rw e; places-are = rw e; run-is = rw e }
 
 module _ (out space : List ℕ) (out-room : 6 ≤ length out) (room : storeSize levels ≤ length space) where
   bits-room : size levels ≤ length space
   unfolding size storeSize
   bits-room = omega arith
 
-  same-estimate : {c c′ n n′ run run′ : ℕ} (k : ℕ) → c ≡ c′ → n ≡ n′ → run ≡ run′ → estimateOf c n run k ≡ estimateOf c′ n′ run′ k
-  same-estimate k p q l = cc
-
-  -- an answer that is the estimate of counts that can be
-  runs : (t : Track) (s : List ℕ) (c n run k : ℕ) → answerOf t s out space ≡ estimateOf c n run k → impossibleCounts c n run k ≡ false
-      → Right out space (record { track = t; samples = s; number = 0; c = c; n = n; run = run })
-  runs t s c n run k e h =
-      let r = holds c n run k h in
+  -- an answer that is that of a race whose counts can be
+  runs : (t : Track) (s : List ℕ) (o : Outcome) (m k : ℕ) {c n run : ℕ} → answerOf t s out space ≡ ratingOf o m k → o .hits ≡ c → m ≡ n → o .longest ≡ run
+      → impossibleCounts c n run k ≡ false → Right out space (record { track = t; samples = s; number = 0; c = c; n = n; run = run })
+  runs t s o m k e p q l h =
+      let r = holds o m k (rw (p, q, l) h) in
       record {
         number-is = ap (λ (a : Answer). a .number) e ∙ r .number;
-        c-is = ap (λ (a : Answer). a .estimate .c) e ∙ r .hits-are;
-        n-is = ap (λ (a : Answer). a .estimate .n) e ∙ r .places-are;
-        run-is = ap (λ (a : Answer). a .estimate .«max_run_len») e ∙ r .run-is;
+        c-is = ap (λ (a : Answer). a .estimate .c) e ∙ r .hits-are ∙ p;
+        n-is = ap (λ (a : Answer). a .estimate .n) e ∙ r .places-are ∙ q;
+        run-is = ap (λ (a : Answer). a .estimate .«max_run_len») e ∙ r .run-is ∙ l;
       }
 
   -- bits that are not refused
-  bits-row : (b : List ℕ) (c n run : ℕ) → bitsNumber b 1 space ≡ 0 → hits (Bits.raceOf levels cap (bitsOfCapture b 1)) ≡ c
-      → predictions firstPlace (bitsOfCapture b 1) ≡ n → longest (Bits.raceOf levels cap (bitsOfCapture b 1)) ≡ run → impossibleCounts c n run 2 ≡ false
+  bits-row : (b : List ℕ) (c n run : ℕ) → bitsNumber b 1 space ≡ 0 → Bits.outcomeOf levels cap (bitsOfCapture b 1) .hits ≡ c
+      → predictions firstPlace (bitsOfCapture b 1) ≡ n → Bits.outcomeOf levels cap (bitsOfCapture b 1) .longest ≡ run → impossibleCounts c n run 2 ≡ false
       → Right out space (record { track = mmc-bits; samples = b; number = 0; c = c; n = n; run = run })
   unfolding mmcBits bitsEstimate
-  bits-row b c n run e p q l h = runs mmc-bits b c n run 2 (rw e (same-estimate 2 p q l)) h
+  bits-row b c n run e p q l h = runs mmc-bits b (Bits.outcomeOf levels cap (bitsOfCapture b 1)) (predictions firstPlace (bitsOfCapture b 1)) 2 (rw e) p q l h
 
   -- literals of at most two values, and of more
-  two-row : (s : List ℕ) (c n run : ℕ) → literalNumber s out space ≡ 0 → leb (distinct s) 2 ≡ true → hits (Bits.raceOf levels cap (sorted s)) ≡ c
-      → predictions firstPlace (sorted s) ≡ n → longest (Bits.raceOf levels cap (sorted s)) ≡ run → impossibleCounts c n run 2 ≡ false
+  two-row : (s : List ℕ) (c n run : ℕ) → literalNumber s out space ≡ 0 → leb (distinct s) 2 ≡ true → Bits.outcomeOf levels cap (sorted s) .hits ≡ c
+      → predictions firstPlace (sorted s) ≡ n → Bits.outcomeOf levels cap (sorted s) .longest ≡ run → impossibleCounts c n run 2 ≡ false
       → Right out space (record { track = mmc-literal; samples = s; number = 0; c = c; n = n; run = run })
   unfolding mmcLiteral literalEstimate bitsEstimate
-  two-row s c n run e d p q l h = runs mmc-literal s c n run 2 (rw (e, d) (same-estimate 2 p q l)) h
+  two-row s c n run e d p q l h = runs mmc-literal s (Bits.outcomeOf levels cap (sorted s)) (predictions firstPlace (sorted s)) 2 (rw (e, d)) p q l h
 
-  many-row : (s : List ℕ) (c n run : ℕ) → literalNumber s out space ≡ 0 → leb (distinct s) 2 ≡ false → hits (Store.raceOf levels cap (sorted s)) ≡ c
-      → predictions firstPlace (sorted s) ≡ n → longest (Store.raceOf levels cap (sorted s)) ≡ run → impossibleCounts c n run (distinct s) ≡ false
+  many-row : (s : List ℕ) (c n run : ℕ) → literalNumber s out space ≡ 0 → leb (distinct s) 2 ≡ false → Store.outcomeOf levels cap (sorted s) .hits ≡ c
+      → predictions firstPlace (sorted s) ≡ n → Store.outcomeOf levels cap (sorted s) .longest ≡ run → impossibleCounts c n run (distinct s) ≡ false
       → Right out space (record { track = mmc-literal; samples = s; number = 0; c = c; n = n; run = run })
   unfolding mmcLiteral literalEstimate storeEstimate
-  many-row s c n run e d p q l h = runs mmc-literal s c n run (distinct s) (rw (e, d) (same-estimate (distinct s) p q l)) h
+  many-row s c n run e d p q l h =
+      runs mmc-literal s (Store.outcomeOf levels cap (sorted s)) (predictions firstPlace (sorted s)) (distinct s) (rw (e, d)) p q l h
 
   -- work space is long enough
   bits-short : ltb (length space) (size levels) ≡ false

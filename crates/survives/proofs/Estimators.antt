@@ -1,10 +1,11 @@
--- Every answer of the four estimators survives the trip: it is an estimate, or a refusal by one of the numbers 1, 7, 6, 2 and 3. The place that 3 names
--- is inside a capture that is not over the limit. Assumes nothing.
+-- Every answer of the four estimators survives the trip: it is what a race of few enough windows or levels comes to, or a refusal by one of the numbers 1, 7,
+-- 6, 2 and 3. The place that 3 names is inside a capture that is not over the limit. Assumes nothing.
 use mathlib.Core.Path.{_≡_, refl, sym, subst}
 use mathlib.Core.Bool.{Bool, true, false, cond, _||_}
 use mathlib.Core.List.{List}
 use Prim.Native.Nat.{ℕ, _<_}
 use native.Mathlib.Nat.{lt-of-lt-of-le}
+use native.Mathlib.Omega.{arith}
 use borrow.Author.Tests.{ltb-false, lt-ltb}
 use lib.Dec.{T, eqb, ltb, ltb→lt}
 use lib.Ieee.Fits.{and-r}
@@ -17,7 +18,7 @@ use Rattle.answer.specs.declared.Answer.{Answer}
 use Rattle.capture.specs.Bits.{bitCount, bitsOf, firstWide, wide}
 use Rattle.capture.specs.Limit.{noWidth, overLimit, symbolLimit}
 use Rattle.capture.specs.Refusals.{bitsRefusal, refusedOn}
-use Rattle.mcw_bits.specs.Mcw.{leastSamples}
+use Rattle.mcw_bits.specs.Mcw.{leastSamples, windows}
 use Rattle.mmc_bits.specs.Levels.{levels}
 use Rattle.mmc_bits.specs.Space.{size}
 use Rattle.multi_mcw.specs.Tracks as Mcw
@@ -37,7 +38,7 @@ use Rattle.multi_mmc.specs.Tracks.{
 }
 use Rattle.recordable.specs.Recordable.{placed}
 use Rattle.survives.specs.Survives.{Survives}
-use Rattle.survives.proofs.Estimates.{estimate-survives, refusal-survives}
+use Rattle.survives.proofs.Estimates.{race-survives, refusal-survives}
 
 too-long : Survives (refused tooLong)
 unfolding given placed
@@ -89,7 +90,7 @@ module _ {a : Answer} (s : Survives a) where
 
 -- ---- MultiMCW
 mcw-estimate-survives : (s : List ℕ) (k : ℕ) → Survives (Mcw.estimated s k)
-mcw-estimate-survives s k = estimate-survives _ _ _ _
+mcw-estimate-survives s k = race-survives (length windows) _ _ s k (omega arith) (omega arith)
 
 pub mcw-bits-survives : (symbols : List ℕ) (w : ℕ) → Survives (mcwBits symbols w)
 unfolding mcwBits
@@ -105,11 +106,11 @@ mcw-literal-survives symbols out =
 -- ---- MultiMMC
 bits-estimate-survives : (b : List ℕ) → Survives (bitsEstimate b)
 unfolding bitsEstimate
-bits-estimate-survives b = estimate-survives _ _ _ _
+bits-estimate-survives b = race-survives levels _ _ b 2 (omega arith) (omega arith)
 
 store-estimate-survives : (s : List ℕ) (k : ℕ) → Survives (storeEstimate s k)
 unfolding storeEstimate
-store-estimate-survives s k = estimate-survives _ _ _ _
+store-estimate-survives s k = race-survives levels _ _ s k (omega arith) (omega arith)
 
 pub mmc-bits-survives : (symbols : List ℕ) (w : ℕ) (counters : List ℕ) → Survives (mmcBits symbols w counters)
 unfolding mmcBits bitsNumber

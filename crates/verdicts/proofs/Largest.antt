@@ -4,8 +4,7 @@ use mathlib.Core.Bool.{Bool}
 use Prim.Native.Nat.{ℕ, zero, suc, _+_, _-_, _≤_, _<_}
 use native.Mathlib.Omega.{arith}
 use lib.ListN.{getD, replicate, length-replicate}
-use Rattle.race.specs.Race.{Guess, judge, Standing, standing}
-use Rattle.race.specs.inner.Ends.{finalScore}
+use Rattle.race.specs.Race.{Guess, judge, Standing, standing, finalScore}
 use Rattle.race.proofs.Standing.{no-score}
 use Rattle.verdicts.specs.inner.Deficits.{isRight, gain, Behind}
 use Rattle.verdicts.proofs.Deficits.{gain-enough, best-next, points, behind-next}

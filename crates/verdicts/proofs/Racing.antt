@@ -8,9 +8,9 @@ use native.Mathlib.Numerals.{add-one}
 use lib.ListN.{length, getD, replicate, length-replicate, List·getD-eq-default}
 use lib.Dec.{eqb, ltb}
 use borrow.Author.Tests.{ltb-true, ltb-false}
-use Rattle.race.specs.Race.{Guess, Verdict, hit, miss, none, judge, standing, verdictOf, hitOf, hits, longest, Event, event, events}
+use Rattle.race.specs.Race.{Guess, Verdict, hit, miss, none, judge, standing, verdictOf, hitOf, hits, longest, Event, event, events, finalScore}
 use Rattle.race.specs.inner.Held.{counterLimit, tallied}
-use Rattle.race.specs.inner.Ends.{runAfter, finalScore, tallyOf}
+use Rattle.race.specs.inner.Ends.{runAfter, tallyOf}
 use Rattle.race.proofs.Cases.{tested}
 use Rattle.race.proofs.Trace.{hits-append, hits-le, runAfter-snoc, runAfter-le, runAfter-le-longest, longest-snoc}
 use Rattle.race.proofs.Standing.{no-score, final-score-le, events-length}

@@ -9,9 +9,12 @@ use crate::planes::claim;
 use crate::planes::ripple;
 use crate::planes::top_bit;
 use crate::tally::count_masks;
+use race::Outcome;
 use race::Tally;
 ghost use mathlib.Core.Path.{_≡_};
-ghost use Rattle.verdicts.specs.inner.Steps.{Onwards, Passable, Steppable, Stepped};
+ghost use Prim.Native.Nat.{_<_};
+ghost use Rattle.race.specs.inner.Held.{counterLimit};
+ghost use Rattle.verdicts.specs.inner.Steps.{Onwards, Passable, Steppable, Stepped, ended};
 
 // Before the first place nobody has a score.
 pub fn start() -> Race
@@ -114,5 +117,19 @@ pub fn step(race: Race, up: &mut [u64], masks: Masks, all: u32) -> Race
         winner: o.winner,
         score: grown,
         tally,
+    }
+}
+
+// The outcome of what the race holds after the last place.
+pub fn ended(race: Race) -> Outcome
+    requires { ⌜ race .winner < counterLimit ⌝ }
+    ensures { λ r. ⌜ r ≡ ended race ⌝ }
+{
+    let tally = race.tally;
+    Outcome {
+        hits: tally.hits,
+        longest: tally.longest,
+        winner: race.winner as u64 + 1,
+        score: race.score,
     }
 }

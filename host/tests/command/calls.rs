@@ -41,7 +41,7 @@ fn help_and_version_end_with_a_line_feed() {
 }
 
 /// Wrong calls, their words apart by single spaces, and what is said of each.
-const WRONG: [(&str, &str); 45] = [
+const WRONG: [(&str, &str); 52] = [
     (
         "frob",
         "frob is no command; the commands are rate, show and health",
@@ -132,12 +132,38 @@ const WRONG: [(&str, &str); 45] = [
         "rate a --width=8 --records=b --records=c",
         "--records is given twice: all records go to one file",
     ),
+    (
+        "rate a --width=8 --records=b --kind",
+        "--kind takes 2, which tells who predicted, or 1, for readers that know no other, \
+         and none is given",
+    ),
+    (
+        "rate a --width=8 --records=b --kind=",
+        "--kind takes 2, which tells who predicted, or 1, for readers that know no other, \
+         and its value is empty; is a variable unset?",
+    ),
+    (
+        "rate a --width=8 --kind 3 --records=b",
+        "--kind takes 2, which tells who predicted, or 1, for readers that know no other, \
+         not '3'",
+    ),
+    (
+        "rate a --width=8 --records=b --kind=named",
+        "--kind takes 2, which tells who predicted, or 1, for readers that know no other, \
+         not 'named'",
+    ),
+    (
+        "rate a --width=8 --kind=2",
+        "--kind is of the records, and none are asked for: \
+         say with --records where they go, or leave --kind out",
+    ),
     ("show", "no file of records is named"),
     (
         "show - -",
         "- is standard input, which can be read once: name it once",
     ),
     ("show a --width=8", "--width is not known"),
+    ("show a --kind=1", "--kind is not known"),
     ("health --entropy=1", "no capture file is named"),
     (
         "health  --entropy=1",
@@ -196,6 +222,7 @@ const WRONG: [(&str, &str); 45] = [
     ("health a --entropy=1 --json=1", "--json takes no value"),
     ("health a --entropy=1 --width=8", "--width is not known"),
     ("health a --entropy=1 --jobs=2", "--jobs is not known"),
+    ("health a --entropy=1 --kind=1", "--kind is not known"),
     (
         "health a -e 1",
         "-e is not known; a file of that name is ./-e",
@@ -204,7 +231,7 @@ const WRONG: [(&str, &str); 45] = [
 ];
 
 const USAGE: &str = "\
-usage: abutfern rate FILE.. --width W [--json] [--jobs N] [--records OUT]
+usage: abutfern rate FILE.. --width W [--json] [--jobs N] [--records OUT [--kind K]]
        abutfern show FILE.. [--json]
        abutfern health FILE.. --entropy H [--json]
 ";

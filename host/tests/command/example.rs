@@ -74,7 +74,7 @@ fn the_c_program_writes_and_reads_a_record() {
     let output = Command::new(room.path("record")).output();
     let output = output.expect("the program can be started");
     let written = String::from_utf8_lossy(&output.stdout);
-    let expected = "61 bytes: C 5995 of N 49937, min-entropy 3.013943\n";
+    let expected = "66 bytes: C 4033 of N 4033, winner 1, right 4033 times\n";
     assert_eq!((output.status.code(), &*written), (Some(0), expected));
 }
 

@@ -6,6 +6,7 @@ mod captures;
 mod example;
 mod files;
 mod health;
+mod kinds;
 mod pages;
 mod proofs;
 mod records;

@@ -2,6 +2,7 @@
 
 use crate::files::as_a_user;
 use crate::room::{Outcome, Room, outcome, sample, stored};
+use abutfern::NAMED_RECORD_SIZE;
 use std::fs::{File, Permissions};
 use std::io::Write;
 use std::os::unix::fs::{PermissionsExt, symlink};
@@ -15,7 +16,8 @@ const RATE: [&str; 6] = [
     "--records",
     "out.rec",
 ];
-const WRITTEN: &str = "abutfern: out.rec has 4 records, 4 of each capture in the order given\n";
+const WRITTEN: &str =
+    "abutfern: out.rec has 4 records of kind 2, 4 of each capture in the order given\n";
 
 fn room(name: &str) -> Room {
     let room = Room::new(name);
@@ -38,10 +40,11 @@ fn names(room: &Room) -> Vec<String> {
 fn records(room: &Room, name: &str) -> Vec<String> {
     let bytes = std::fs::read(room.path(name)).expect("the records can be read");
     let hex = |record: &[u8]| record.iter().map(|byte| format!("{byte:02x}")).collect();
-    bytes.chunks(61).map(hex).collect()
+    bytes.chunks(NAMED_RECORD_SIZE).map(hex).collect()
 }
 
-/// The estimates of a stored rating as `show --json` prints their records.
+/// The estimates of a stored rating as `show --json` prints their records, which do not say what
+/// the winner's window or prefix is, and say of a refusal that it has none.
 fn as_shown(name: &str) -> String {
     let rating = stored(name);
     let (_, rest) = rating
@@ -59,9 +62,36 @@ fn as_shown(name: &str) -> String {
     .enumerate()
     {
         let named = format!(r#""estimator":"{estimator}""#);
-        shown = shown.replace(&named, &format!(r#""byte":{}"#, 61 * i));
+        let byte = NAMED_RECORD_SIZE * i;
+        shown = shown.replace(&named, &format!(r#""byte":{byte},"kind":2"#));
     }
+    for memory in [r#""window":"#, r#""prefix":"#] {
+        shown = without(&shown, memory);
+    }
+    let shown: Vec<String> = shown.split_inclusive('}').map(with_winner).collect();
+    let shown = shown.concat();
     format!("{{\"file\":\"out.rec\",\"records\":[{shown}],\"bad\":null}}\n")
+}
+
+/// An object that ends a text of JSON, with no winner where none is named.
+fn with_winner(json: &str) -> String {
+    match json.strip_suffix('}') {
+        Some(open) if !json.contains(r#""winner":"#) => {
+            format!(r#"{open},"winner":0,"score":0}}"#)
+        }
+        _ => json.to_string(),
+    }
+}
+
+/// A text of JSON without the key, its value and the comma after it, wherever it stands.
+fn without(json: &str, key: &str) -> String {
+    let mut parts = json.split(key);
+    let mut left = parts.next().unwrap_or_default().to_string();
+    for part in parts {
+        let (_, rest) = part.split_once(',').expect("another key follows");
+        left += rest;
+    }
+    left
 }
 
 #[test]
@@ -106,11 +136,14 @@ fn a_capture_that_is_refused_has_its_records() {
     assert_eq!((shown.status, shown.stdout), (0, as_shown("a-two.json")));
 }
 
-/// 4,096 zero bytes: C = N = run = 4,033 for MultiMCW literal, with -1.0 and -0.0 at the end.
-const ZEROS: &str = "39000000010000010000000000c10f0000c10f0000c10f0000000000000000\
-                     00000000f03f000000000000f03f000000000000f0bf0000000000000080";
-const NOT_RUN: &str = "390000000100060000000000000000000000000000000000000000000000000000\
-                       0000f0bf000000000000f0bf000000000000f0bf000000000000f0bf";
+/// 4,096 zero bytes: C = N = run = 4,033 for MultiMCW literal, with -1.0 and -0.0 before the winner,
+/// the window of 63, which was right as often.
+const ZEROS: &str = "3e000000020000010000000000c10f0000c10f0000c10f0000000000000000\
+                     00000000f03f000000000000f03f000000000000f0bf0000000000000080\
+                     01c10f0000";
+const NOT_RUN: &str = "3e0000000200060000000000000000000000000000000000000000000000000000\
+                       0000f0bf000000000000f0bf000000000000f0bf000000000000f0bf\
+                       0000000000";
 
 #[test]
 fn the_bytes_of_known_records_in_the_order_given() {
@@ -126,8 +159,8 @@ fn the_bytes_of_known_records_in_the_order_given() {
         "--jobs=3",
         "--records=out.rec",
     ]);
-    let said = "abutfern: out.rec has 12 records, 4 of each capture in the order given\n";
-    assert_eq!((rated.status, &*rated.stderr), (1, said));
+    let said = WRITTEN.replace("4 records", "12 records");
+    assert_eq!((rated.status, rated.stderr), (1, said));
     let records = records(&room, "out.rec");
     assert_eq!(records.len(), 12);
     assert_eq!(records[4..8], [NOT_RUN; 4]);
@@ -204,7 +237,7 @@ fn a_folder_that_may_not_be_written() {
 }
 
 /// A limit of 512 or 1,024 bytes to a file stands for a disk that is full; the five captures have
-/// 1,220 bytes of records. Signal 25, of that limit, would end the command.
+/// 1,320 bytes of records. Signal 25, of that limit, would end the command.
 #[test]
 fn a_write_that_fails_half_way_leaves_nothing() {
     let room = room("records-full");

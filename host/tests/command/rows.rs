@@ -3,7 +3,7 @@
 use crate::room::{Room, page, sample, told};
 use crate::strict;
 use abutfern::{
-    RECORD_SIZE, multi_mcw, multi_mcw_literal, multi_mmc, prediction_estimate, read_record,
+    NAMED_RECORD_KIND, multi_mcw, multi_mcw_literal, multi_mmc, prediction_estimate, read_record,
     read_records, write_record,
 };
 use std::io::Write;
@@ -13,6 +13,12 @@ use std::process::{Command, Stdio};
 pub struct Example {
     pub bytes: Vec<u8>,
     pub answer: String,
+}
+
+impl Example {
+    pub fn kind(&self) -> u64 {
+        self.bytes[4].into()
+    }
 }
 
 /// What stands between the fences of a word, one after the other.
@@ -60,14 +66,22 @@ pub fn row() -> Vec<u8> {
 fn the_library_reads_and_writes_the_records_of_the_page() {
     let row = row();
     let read = read_records(&row);
-    assert_eq!((read.good, read.number, read.byte), (9, 0, 9 * 61));
-    for (i, record) in row.chunks(RECORD_SIZE).enumerate() {
-        let reading = read_record(record);
-        assert_eq!((reading.number, reading.size), (0, 61));
-        assert_eq!(reading.answer.number, i.saturating_sub(1) as u64);
-        let mut again = [0; RECORD_SIZE];
-        assert_eq!(write_record(&reading.answer, 1, &mut again).number, 0);
-        assert_eq!(again, record);
+    assert_eq!((read.good, read.number), (12, 0));
+    assert_eq!(read.byte as usize, row.len());
+    let numbers = [0, 0, 1, 2, 3, 4, 5, 6, 7, 0, 0, 6];
+    for (example, number) in examples().iter().zip(numbers) {
+        let (kind, size) = (example.kind(), example.bytes.len());
+        let reading = read_record(&example.bytes);
+        assert_eq!((reading.number, reading.size as usize), (0, size));
+        assert_eq!(reading.answer.number, number);
+        let told = reading.winner().is_some();
+        assert_eq!(told, kind == NAMED_RECORD_KIND);
+        let mut again = vec![0; size];
+        assert_eq!(
+            write_record(&reading.answer, told, kind, &mut again).number,
+            0
+        );
+        assert_eq!(again, example.bytes);
     }
 }
 
@@ -77,19 +91,23 @@ fn the_captures_of_the_page_have_its_records() {
     let mut bits: Vec<u8> = sample().iter().map(|symbol| symbol % 2).collect();
     bits[4321] = 2;
     let examples = examples();
-    for (name, symbols, width, estimator, example) in [
-        ("board", sample(), "4", 0, 0),
-        ("zeros", vec![0; 4096], "8", 1, 1),
-        ("long", vec![0; 16_777_217], "8", 3, 2),
-        ("bits", bits, "1", 0, 4),
-        ("none", vec![], "8", 2, 7),
+    for (name, symbols, width, estimator, places) in [
+        ("board", sample(), "4", 0, &[0, 9][..]),
+        ("zeros", vec![0; 4096], "8", 1, &[1]),
+        ("long", vec![0; 16_777_217], "8", 3, &[2]),
+        ("bits", bits, "1", 0, &[4]),
+        ("none", vec![], "8", 2, &[7, 11]),
     ] {
         room.file(name, &symbols);
-        let out = format!("{name}.rec");
-        room.run(&["rate", name, "--width", width, "--records", &out]);
-        let records = std::fs::read(room.path(&out)).expect("the records are there");
-        let record = records.chunks(RECORD_SIZE).nth(estimator);
-        assert_eq!(record, Some(&*examples[example].bytes), "{name}");
+        for example in places.iter().map(|place: &usize| &examples[*place]) {
+            let kind = example.kind().to_string();
+            let out = format!("{name}-{kind}.rec");
+            let words = ["rate", name, "--width", width, "--records", &out];
+            room.run(&[&words[..], &["--kind", &kind]].concat());
+            let records = std::fs::read(room.path(&out)).expect("the records are there");
+            let record = records.chunks(example.bytes.len()).nth(estimator);
+            assert_eq!(record, Some(&*example.bytes), "{out}");
+        }
     }
 }
 
@@ -100,13 +118,16 @@ fn the_library_has_the_records_of_the_page_that_rate_never_has() {
     for (answer, example) in [
         (multi_mcw_literal(&[0; 4096], &mut [0; 4095]), 3),
         (prediction_estimate(2, 1, 1, 2), 5),
+        (prediction_estimate(5995, 49937, 6, 16), 10),
         (multi_mcw(&sample(), 0), 8),
         (multi_mcw(&[2; 4096], 9), 8),
         (multi_mmc(&[], 255, &mut []), 8),
     ] {
-        let mut record = [0; RECORD_SIZE];
-        assert_eq!(write_record(&answer, 1, &mut record).number, 0);
-        assert_eq!(record, *examples[example].bytes, "{answer:?}");
+        let example = &examples[example];
+        let mut record = vec![0; example.bytes.len()];
+        let written = write_record(&answer, true, example.kind(), &mut record);
+        assert_eq!(written.number, 0);
+        assert_eq!(record, example.bytes, "{answer:?}");
     }
 }
 
@@ -153,13 +174,27 @@ fn the_reader_of_the_page_refuses_what_the_library_refuses() {
     };
     for (bad, place, number) in [
         (row[..548].to_vec(), 8, 8),
+        (row[..549 + 5].to_vec(), 9, 8),
+        (row[..549 + 61].to_vec(), 9, 8),
+        (row[..681 + 65].to_vec(), 11, 8),
         (changed(126, 2), 2, 8),
+        (changed(122, 62), 2, 8),
+        (changed(549, 57), 9, 8),
+        (changed(549 + 4, 1), 9, 8),
+        (changed(549 + 4, 3), 9, 8),
         (changed(6, 8), 0, 9),
         (changed(114 + 7, 191), 1, 9),
         (changed(61 * 7 + 6, 8), 7, 9),
+        (changed(549 + 61, 17), 9, 9),
+        (changed(549 + 64, 4), 9, 9),
+        (changed(549 + 61, 0), 9, 9),
+        (changed(615 + 62, 1), 10, 9),
+        (changed(681 + 61, 1), 11, 9),
+        (changed(681 + 62, 1), 11, 9),
     ] {
         let (status, printed, said) = in_python(&bad);
-        let byte = 61 * place;
+        let before = examples().into_iter().take(place);
+        let byte: usize = before.map(|example| example.bytes.len()).sum();
         let expected = format!("record {place} at byte {byte} is refused with {number}\n");
         assert_eq!((status, said), (1, expected));
         assert_eq!(printed.lines().count(), place);

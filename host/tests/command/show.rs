@@ -5,7 +5,7 @@ use crate::{rows, strict};
 use std::fs::File;
 
 /// Shows a file with these bytes, as a table and as JSON.
-fn shown(name: &str, bytes: &[u8]) -> [Outcome; 2] {
+pub fn shown(name: &str, bytes: &[u8]) -> [Outcome; 2] {
     let room = Room::new(&format!("show-{name}"));
     room.file("a.rec", bytes);
     [
@@ -37,11 +37,10 @@ fn no_bytes_are_no_records() {
     assert_eq!(json, good(format!("{none}\n")));
 }
 
-/// The first two records of the page, of number 0, then one of them or its record of number 3 with
-/// a field changed.
-fn third(of: usize, first: usize, field: &[u8]) -> Vec<u8> {
+/// The first two records of the page, of number 0, then the one of a place with a field changed.
+pub fn third(of: usize, first: usize, field: &[u8]) -> Vec<u8> {
     let mut row = rows::row();
-    let mut bad = row[61 * of..61 * (of + 1)].to_vec();
+    let mut bad = rows::examples()[of].bytes.clone();
     bad[first..first + field.len()].copy_from_slice(field);
     row.truncate(122);
     row.extend(bad);
@@ -50,7 +49,7 @@ fn third(of: usize, first: usize, field: &[u8]) -> Vec<u8> {
 }
 
 /// The first two records are shown, and the third is said to be bad.
-fn is_bad(name: &str, row: &[u8], number: u64, reason: &str) {
+pub fn is_bad(name: &str, row: &[u8], number: u64, reason: &str) {
     let [table, json] = shown(name, row);
     let said = format!(
         "abutfern: a.rec has a bad record at place 2, byte 122: {reason} (answer {number}); \
@@ -71,12 +70,13 @@ fn is_bad(name: &str, row: &[u8], number: u64, reason: &str) {
 #[test]
 fn a_row_that_ends_too_soon() {
     let row = rows::row();
-    for (length, left) in [
-        (123, "1 byte is"),
-        (127, "5 bytes are"),
-        (182, "60 bytes are"),
+    for (length, left, size) in [
+        (123, "1 byte is", "61 or 66"),
+        (125, "3 bytes are", "61 or 66"),
+        (127, "5 bytes are", "61"),
+        (182, "60 bytes are", "61"),
     ] {
-        let reason = format!("{left} left, and a record takes 61");
+        let reason = format!("{left} left, and a record takes {size}");
         is_bad(&format!("end-{length}"), &row[..length], 8, &reason);
     }
 }
@@ -84,20 +84,42 @@ fn a_row_that_ends_too_soon() {
 #[test]
 fn a_wrong_length_or_kind() {
     for (name, first, field, reason) in [
-        ("length", 0, &[58][..], "its length field says 58, not 57"),
+        (
+            "length",
+            0,
+            &[58][..],
+            "its length field says 58, not 57 or 62",
+        ),
         (
             "length-high",
             3,
             &[1],
-            "its length field says 16,777,273, not 57",
+            "its length field says 16,777,273, not 57 or 62",
         ),
-        ("kind", 4, &[2], "its kind is 2, and 1 is known"),
-        ("kind-high", 5, &[1], "its kind is 257, and 1 is known"),
+        (
+            "length-other",
+            0,
+            &[62],
+            "its length field says 62, and a record of kind 1 has 57 there",
+        ),
+        (
+            "kind-other",
+            4,
+            &[2],
+            "its length field says 57, and a record of kind 2 has 62 there",
+        ),
+        ("kind", 4, &[3], "its kind is 3, and 1 and 2 are known"),
+        (
+            "kind-high",
+            5,
+            &[1],
+            "its kind is 257, and 1 and 2 are known",
+        ),
         (
             "both",
             0,
             &[0, 0, 0, 0, 9],
-            "its length field says 0, not 57",
+            "its length field says 0, not 57 or 62",
         ),
     ] {
         is_bad(name, &third(0, first, field), 8, reason);
@@ -223,7 +245,9 @@ fn a_number_that_no_estimator_says() {
             .stdout
             .ends_with(&format!("  {words} (answer 10)\n\n"))
     );
-    let answer = format!(r#"{{"byte":0,"number":10,"answer":"{words}"}}"#);
+    let answer = format!(
+        r#"{{"byte":0,"kind":1,"number":10,"answer":"{words}","winner":null,"score":null}}"#
+    );
     let object = format!(r#"{{"file":"a.rec","records":[{answer}],"bad":null}}"#);
     assert_eq!(json, good(format!("{object}\n")));
 }
@@ -259,7 +283,8 @@ fn a_bad_first_record_and_a_file_after_it() {
     room.file("b.rec", b"no records\n");
     let both = room.run(&["show", "b.rec", "a.rec"]);
     let said = "abutfern: b.rec has a bad record at place 0, byte 0: its length field says \
-                1,914,728,302, not 57 (answer 8); get the file anew from where it was written\n";
+                1,914,728,302, not 57 or 62 (answer 8); \
+                get the file anew from where it was written\n";
     assert_eq!((both.status, &*both.stderr), (1, said));
     let none = "b.rec: no records before the first bad one\n\n";
     assert_eq!(both.stdout, format!("{none}{}", stored("records.txt")));
@@ -295,7 +320,11 @@ fn a_dash_shows_standard_input_and_what_is_endless_ends() {
     assert_eq!(table, good(expected));
     let endless = room.run(&["show", "/dev/zero"]);
     assert_eq!(endless.status, 1);
-    assert!(endless.stderr.contains("its length field says 0, not 57"));
+    assert!(
+        endless
+            .stderr
+            .contains("its length field says 0, not 57 or 62")
+    );
 }
 
 #[test]
@@ -303,13 +332,13 @@ fn more_records_than_are_read_at_once() {
     let mut bytes = rows::row().repeat(2500);
     let [table, _] = shown("many", &bytes);
     assert_eq!(table.status, 0);
-    assert_eq!(table.stdout.lines().count(), 22_500 + 4);
+    assert_eq!(table.stdout.lines().count(), 30_000 + 4);
     bytes.truncate(bytes.len() - 1);
     let room = Room::new("show-many-cut");
     room.file("a.rec", &bytes);
     let cut = room.shell(r#"cat a.rec | "$0" "$@""#, &["show", "-"]);
-    let said = "abutfern: standard input has a bad record at place 22,499, byte 1,372,439: \
-                60 bytes are left, and a record takes 61 (answer 8); \
+    let said = "abutfern: standard input has a bad record at place 29,999, byte 1,867,434: \
+                65 bytes are left, and a record takes 66 (answer 8); \
                 get the file anew from where it was written\n";
     assert_eq!((cut.status, &*cut.stderr), (1, said));
 }

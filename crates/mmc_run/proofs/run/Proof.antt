@@ -8,6 +8,7 @@ use borrow.Author.Needs.{needs}
 use denote.Ref.{now}
 use lib.ListN.{length}
 use Rattle.capture.specs.Bits.{bitsOf}
+use Rattle.verdicts.proofs.Ending.{racing-over}
 use Rattle.mmc_bits.specs.inner.Steps.{After}
 use Rattle.mmc_run.proofs.Running.{
   Place,
@@ -119,14 +120,19 @@ loop-again c =
       p .place .kept .0 ∙ head (read p) .loop .inv .1,
     )
 
+ended-requires : tie.Need-ended-requires Inv-loop μ-loop
+ended-requires c κs = racing-over (c .before .loop .inv .0 .raced)
+
 same-length : tie.Need-same-length Inv-loop μ-loop
 same-length c = c .before .before .loop .inv .1
 
 returns : tie.Need-returns Inv-loop μ-loop
 returns c =
     let t = c .before in
-    let a = t .before in
-    (running-ends (start a .pre .0) (a .loop .inv .0) (t .loop-test .left), running-leaves (start a .pre .0) (a .loop .inv .0) (t .loop-test .left))
+    let a = t .before in (
+      c .ended .ensures ∙ running-ends (start a .pre .0) (a .loop .inv .0) (t .loop-test .left),
+      running-leaves (start a .pre .0) (a .loop .inv .0) (t .loop-test .left),
+    )
 
 pub run-spec : {M : Type 1} → statement M
 run-spec =
@@ -149,5 +155,6 @@ run-spec =
     add-i
     loop-less
     loop-again
+    ended-requires
     same-length
     returns)

@@ -8,7 +8,7 @@ use denote.Ref.{now}
 use lib.ListN.{length}
 use Rattle.mmc_bits.specs.Levels.{levels, cap}
 use Rattle.mmc_store.proofs.Small.{byte, fits-symbol, fits-next, fits-limit, falls}
-use Rattle.mmc_symbols.proofs.Running.{Run, run-start, place-of, winner-lt, scores-full, countable, leadable, run-next, run-tally}
+use Rattle.mmc_symbols.proofs.Running.{Run, run-start, place-of, winner-lt, scores-full, countable, leadable, run-next, run-ends}
 use Rattle.mmc_symbols.proofs.run.Statement.{statement}
 use Rattle.mmc_symbols.proofs.run.Tie as tie
 
@@ -61,6 +61,10 @@ loop-again c =
     run-next (here x .before .loop .inv) (here x .loop-test .taken) (told .1) (c .before .lead .ensures) (c .before .before .before .before .count .ensures)
     (told .0)
 
+-- where no place is left, from where the scores are at hand
+abbrev over : tie.After-scores3 Inv-loop μ-loop → tie.After-loop Inv-loop μ-loop
+over c = c .before
+
 pub run-spec : {M : Type 1} → statement M
 run-spec =
     tie.close
@@ -69,5 +73,6 @@ run-spec =
     (λ c. winner-lt (here c .before .loop .inv)) (λ c κs. countable (here c .before .loop .inv) (here c .loop-test .taken))
     (λ c. sym (scores-full (here (c .before .before) .before .loop .inv))) (λ c. sym (past (c .before .before .before) .at-place .ensures .1 .full))
     lead-requires add-place (λ c. falls _ _ (here (read (c .before)) .loop-test .taken)) loop-again
-    (λ c. c .before .loop .inv .stands .held .long ∙ sym (start (c .before .before .before .before) .pre .1))
-    (λ c. run-tally (c .before .loop .inv) (c .loop-test .left)))
+    (λ c. sym (scores-full (over c .before .loop .inv))) (λ c κs. rw (scores-full (over c .before .loop .inv)) (winner-lt (over c .before .loop .inv)))
+    (λ c. over (c .before) .before .loop .inv .stands .held .long ∙ sym (start (over (c .before) .before .before .before .before) .pre .1))
+    (λ c. c .ended .ensures ∙ run-ends (over (c .before) .before .loop .inv) (over (c .before) .loop-test .left)))

@@ -3,7 +3,7 @@ use mathlib.Core.Path.{ap, _∙_}
 use native.Mathlib.Omega.{arith}
 use borrow.Author.Needs.{needs}
 use denote.Ref.{now}
-use Rattle.mcw_bits.specs.inner.Counts.{countsOf}
+use Rattle.mcw_bits.specs.Mcw.{outcomeOf}
 use Rattle.capture.proofs.Bitstring.{bits-narrow}
 use Rattle.multi_mcw.proofs.mcw_translated.Statement.{statement}
 use Rattle.multi_mcw.proofs.mcw_translated.Tie as tie
@@ -15,7 +15,7 @@ returns : tie.Need-returns
 returns c =
     let z = c .before .before .before in
     let s = now (z .args .s) in
-    c .mcw-bits .ensures ∙ ap countsOf (bits-narrow s (λ i l. omega (arith, z .pre .1 .below i l, c .before .if1 .taken)))
+    c .mcw-bits .ensures ∙ ap outcomeOf (bits-narrow s (λ i l. omega (arith, z .pre .1 .below i l, c .before .if1 .taken)))
 
 mcw-symbols-requires : tie.Need-mcw-symbols-requires
 mcw-symbols-requires c κs = search needs

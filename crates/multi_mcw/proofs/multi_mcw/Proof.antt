@@ -1,4 +1,4 @@
--- `multi_mcw` meets its contract. It is refused by the number of `bits_refusal`, and else the estimate is that of the counts over the bits.
+-- `multi_mcw` meets its contract. It is refused by the number of `bits_refusal`, and else the answer is the rating of the race over the bits.
 -- Assumes nothing.
 use mathlib.Core.Path.{sym, _∙_}
 use mathlib.Core.Bool.{false}
@@ -32,14 +32,14 @@ mul-n c = omega (arith, source-short (taken-source (ran c)))
 mcw-bits-requires : tie.Need-mcw-bits-requires
 mcw-bits-requires c κs = taken-source (ran c)
 
-sub-prediction-estimate : tie.Need-sub-prediction-estimate
-sub-prediction-estimate c = omega (arith, ran (c .before) .many)
+sub-rate : tie.Need-sub-rate
+sub-rate c = omega (arith, ran (c .before) .many)
 
 returns-2 : tie.Need-returns-2
 returns-2 c =
     let m = c .before in
     let n = m .before .before in
-    c .prediction-estimate .ensures
+    c .rate .ensures
     ∙ bits-ran (now (start n .args .symbols)) (start n .args .bits-per-symbol) (n .bits-refusal .ensures) (m .before .if1 .left)
     (m .mcw-bits .ensures)
 
@@ -52,6 +52,6 @@ multi-mcw-spec =
     returns
     mul-n
     mcw-bits-requires
-    sub-prediction-estimate
+    sub-rate
     (λ c κs. search needs)
     returns-2)

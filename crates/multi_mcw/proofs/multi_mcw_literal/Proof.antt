@@ -1,5 +1,5 @@
 -- `multi_mcw_literal` meets its contract. It is refused by the number of `literal_refusal`, which leaves the output as it was; else the output begins
--- with the translated symbols, over which the counts are taken. Assumes nothing.
+-- with the translated symbols, over which the race is run. Assumes nothing.
 use mathlib.Core.Path.{_≡_, ap, _∙_}
 use mathlib.Core.List.{List}
 use Prim.Native.Nat.{ℕ}
@@ -7,7 +7,7 @@ use native.Mathlib.Omega.{arith}
 use borrow.Author.Needs.{needs}
 use denote.Ref.{now}
 use Rattle.alphabet.proofs.Alphabets.{Bytes}
-use Rattle.mcw_bits.specs.inner.Counts.{countsOf}
+use Rattle.mcw_bits.specs.Mcw.{outcomeOf}
 use Rattle.multi_mcw.proofs.Answers.{Taken, literal-refused, literal-ran, literal-taken}
 use Rattle.multi_mcw.proofs.Translated.{Translation, size-is, taken-is, taken-length, translated-asks, written-is}
 use Rattle.multi_mcw.proofs.multi_mcw_literal.Statement.{statement}
@@ -23,7 +23,7 @@ symbols c = now (start c .before .args .symbols)
 abbrev out : tie.After-literal-refusal → List ℕ
 out c = now (start c .before .args .out)
 
--- the number, from where the symbols are translated; and that, from where the counts are taken
+-- the number, from where the symbols are translated; and that, from where the race is run
 abbrev entry : tie.After-dense-alphabet → tie.After-literal-refusal
 entry c = c .before .before .before
 
@@ -67,8 +67,8 @@ mcw-translated-requires c κs =
     let v = translated c in
     translated-asks (symbols (entry v)) (bytes (entry v)) (omega (arith, ran v .many)) (ran v .fits) (taken-is (translation v)) (size-is (translation v))
 
-sub-prediction-estimate : tie.Need-sub-prediction-estimate
-sub-prediction-estimate c = omega (arith, ran (translated (c .before)) .many)
+sub-rate : tie.Need-sub-rate
+sub-rate c = omega (arith, ran (translated (c .before)) .many)
 
 runs : tie.Need-returns-2
 runs c =
@@ -76,9 +76,9 @@ runs c =
     let v = translated (m .before) in
     let n = entry v in
     let T = translation v in
-    let l = literal-ran (symbols n) (out n) (n .literal-refusal .ensures) (done v) (size-is T) (m .mcw-translated .ensures ∙ ap countsOf (taken-is T))
+    let l = literal-ran (symbols n) (out n) (n .literal-refusal .ensures) (done v) (size-is T) (m .mcw-translated .ensures ∙ ap outcomeOf (taken-is T))
     (written-is T) in
-    (c .prediction-estimate .ensures ∙ l .0, l .1)
+    (c .rate .ensures ∙ l .0, l .1)
 
 pub multi-mcw-literal-spec : {M : Type 1} → statement M
 multi-mcw-literal-spec =
@@ -92,7 +92,7 @@ multi-mcw-literal-spec =
     slice-reshare-prefix-mcw-translated
     slice-aggregate-mcw-translated
     mcw-translated-requires
-    sub-prediction-estimate
+    sub-rate
     (λ c κs. search needs)
     (λ c. search needs)
     runs)

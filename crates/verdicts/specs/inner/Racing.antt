@@ -3,8 +3,8 @@ use mathlib.Core.Path.{_≡_}
 use mathlib.Core.List.{List}
 use Prim.Native.Nat.{ℕ, _≤_}
 use lib.ListN.{length}
-use Rattle.race.specs.Race.{Guess, standing, events}
-use Rattle.race.specs.inner.Ends.{finalScore, tallyOf}
+use Rattle.race.specs.Race.{Guess, standing, events, finalScore}
+use Rattle.race.specs.inner.Ends.{tallyOf}
 use Rattle.verdicts.specs.inner.Deficits.{Behind}
 use Rattle.verdicts.specs.inner.Planes.{deficitAt, signs}
 use Rattle.verdicts.specs.declared.Race.{Race}

@@ -1,10 +1,12 @@
--- One place of the race over verdicts: what the code needs, and what it does to the counts, the winner and the deficits. Definitions only.
+-- One place of the race over verdicts: what the code needs, and what it does to the counts, the winner and the deficits; and how the race ends.
+-- Definitions only.
 use mathlib.Core.Path.{_≡_}
 use mathlib.Core.List.{List}
 use Prim.Native.Nat.{ℕ, _+_, _^_, _≤_, _<_}
 use lib.ListN.{length, getD}
 use Rattle.race.specs.Race.{Verdict, hitOf}
 use Rattle.race.specs.inner.Held.{counterLimit, tallied}
+use Rattle.race.specs.declared.Outcome.{Outcome}
 use Rattle.race.specs.declared.Tally.{Tally}
 use Rattle.verdicts.specs.inner.Told.{digit, spokeOf}
 use Rattle.verdicts.specs.inner.Deficits.{gain, successor}
@@ -69,3 +71,7 @@ pub record Stepped (race : Race) (up : List ℕ) (masks : Masks) (all : ℕ) (r 
   pub score-is : r .score ≡ race .score + gain (bitAt (masks .rights)) (deficitAt (race .low) up) (length up)
   pub counts : Tells (race .tally) masks (race .winner) (r .tally)
   pub moves : Moves (race .low) up (masks .rights) (gain (bitAt (masks .rights)) (deficitAt (race .low) up) (length up)) (r .low) (r .far) up′
+
+-- the counts, the winner from 1, and its score
+abbrev pub ended : Race → Outcome
+ended race = record { hits = race .tally .hits; longest = race .tally .longest; winner = race .winner + 1; score = race .score }

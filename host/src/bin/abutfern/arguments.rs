@@ -1,9 +1,10 @@
 //! The command line.
 
 use crate::names;
-use abutfern::numbers::{ENTROPIES, WIDTHS};
+use crate::values::{BITS, new_file, record_kind, sample_bits, span, symbol_bits, text, within};
+use abutfern::NAMED_RECORD_KIND;
+use abutfern::numbers::WIDTHS;
 use std::ffi::{OsStr, OsString};
-use std::ops::RangeInclusive;
 use std::os::unix::ffi::OsStrExt;
 use std::path::PathBuf;
 
@@ -24,8 +25,14 @@ pub struct Rate {
     pub width: u8,
     pub json: bool,
     pub jobs: usize,
-    /// Where the records go.
-    pub records: Option<PathBuf>,
+    pub records: Option<Out>,
+}
+
+/// Where the records go, and of which kind they are.
+#[derive(Debug, PartialEq)]
+pub struct Out {
+    pub file: PathBuf,
+    pub kind: u64,
 }
 
 /// Files of records to show, and how.
@@ -70,7 +77,8 @@ pub fn read(words: impl Iterator<Item = OsString>) -> Result<Call, String> {
 
 fn rate(words: &[OsString]) -> Result<Rate, String> {
     let mut files: Vec<PathBuf> = Vec::new();
-    let (mut width, mut json, mut jobs, mut records) = (None, false, 2, None);
+    let (mut width, mut json, mut jobs) = (None, false, 2);
+    let (mut records, mut kind) = (None, None);
     let mut words = words.iter();
     while let Some(word) = words.next() {
         let Some((option, own)) = option(word) else {
@@ -83,6 +91,7 @@ fn rate(words: &[OsString]) -> Result<Rate, String> {
             "--jobs" => jobs = within("--jobs", value(), 1..=64)?.into(),
             "--records" if records.is_some() => return Err(TWO_ROWS.to_string()),
             "--records" => records = Some(new_file("--records", value())?),
+            "--kind" => kind = Some(record_kind(value())?),
             "--json" if own.is_none() => json = true,
             "--" if own.is_none() => files.extend(words.by_ref().map(PathBuf::from)),
             "--json" => return Err(NO_VALUE.to_string()),
@@ -102,8 +111,17 @@ fn rate(words: &[OsString]) -> Result<Rate, String> {
         width,
         json,
         jobs,
-        records,
+        records: out(records, kind)?,
     })
+}
+
+/// The file of records with their kind, where one is asked for.
+fn out(file: Option<PathBuf>, kind: Option<u64>) -> Result<Option<Out>, String> {
+    if file.is_none() && kind.is_some() {
+        return Err(NO_RECORDS.to_string());
+    }
+    let kind = kind.unwrap_or(NAMED_RECORD_KIND);
+    Ok(file.map(|file| Out { file, kind }))
 }
 
 fn show(words: &[OsString]) -> Result<Show, String> {
@@ -155,9 +173,8 @@ fn health(words: &[OsString]) -> Result<Health, String> {
 
 const NO_VALUE: &str = "--json takes no value";
 const TWO_ROWS: &str = "--records is given twice: all records go to one file";
-const EMPTY: &str = "its value is empty; is a variable unset?";
-const BLANK: &str = ", and a width field that was left empty arrives as 0";
-const BITS: &str = "1/64 to 8";
+const NO_RECORDS: &str = "--kind is of the records, and none are asked for: \
+                          say with --records where they go, or leave --kind out";
 
 /// An option and the value that follows it after `=`; none where the word is a file's name.
 fn option(word: &OsStr) -> Option<(String, Option<OsString>)> {
@@ -172,10 +189,6 @@ fn option(word: &OsStr) -> Option<(String, Option<OsString>)> {
     }
 }
 
-fn text(word: &OsStr) -> String {
-    word.to_string_lossy().into_owned()
-}
-
 fn unknown(option: &str) -> String {
     let option = names::printable(option);
     if option.starts_with("--") {
@@ -183,81 +196,6 @@ fn unknown(option: &str) -> String {
     } else {
         format!("{option} is not known; a file of that name is ./{option}")
     }
-}
-
-/// The number that an option brings, which is to be in a range.
-fn within(option: &str, value: Option<OsString>, range: RangeInclusive<u8>) -> Result<u8, String> {
-    let wanted = format!("{option} takes a number from {}", span(&range));
-    let value = text(&value.ok_or(format!("{wanted}, and none is given"))?);
-    match value.parse() {
-        Ok(number) if range.contains(&number) => Ok(number),
-        _ if value.is_empty() => Err(format!("{wanted}, and {EMPTY}")),
-        _ => Err(format!("{wanted}, not '{}'", names::printable(&value))),
-    }
-}
-
-fn span(range: &RangeInclusive<u8>) -> String {
-    format!("{} to {}", range.start(), range.end())
-}
-
-/// The bits in a symbol, which --width brings.
-fn symbol_bits(value: Option<OsString>) -> Result<u8, String> {
-    let given = value.as_deref().map(text).unwrap_or_default();
-    within("--width", value, WIDTHS).map_err(|wrong| no_width(&given).unwrap_or(wrong))
-}
-
-/// What is said of a whole number that is no width, which the library refuses with 7; nothing of
-/// other words.
-fn no_width(given: &str) -> Option<String> {
-    let digits = given.strip_prefix('+').unwrap_or(given);
-    if digits.is_empty() || !digits.bytes().all(|digit| digit.is_ascii_digit()) {
-        return None;
-    }
-    let zero = digits.bytes().all(|digit| digit == b'0');
-    let origin = if zero { BLANK } else { "" };
-    Some(format!(
-        "{given} is no width (answer 7){origin}: say with --width how many bits a symbol has, {}",
-        span(&WIDTHS)
-    ))
-}
-
-/// The bits of min-entropy per sample, which --entropy brings.
-fn sample_bits(value: Option<OsString>) -> Result<f64, String> {
-    let wanted = format!("--entropy takes a decimal number of bits, {BITS}");
-    let value = text(&value.ok_or(format!("{wanted}, and none is given"))?);
-    match value.parse() {
-        Ok(entropy) if ENTROPIES.contains(&entropy) => Ok(entropy),
-        Ok(entropy) => Err(no_entropy(&value, entropy)),
-        Err(_) if value.is_empty() => Err(format!("{wanted}, and {EMPTY}")),
-        Err(_) => Err(format!("{wanted}, not '{}'", names::printable(&value))),
-    }
-}
-
-/// What is said of a number that is no entropy to test for, which the library refuses with 5.
-fn no_entropy(given: &str, entropy: f64) -> String {
-    let origin = match entropy {
-        0.0 => ", and 0 is the figure of a board that gives nothing",
-        -1.0 => ", and -1 stands where there is no board figure",
-        _ => "",
-    };
-    format!(
-        "{given} is no entropy to test for (answer 5){origin}: say with --entropy how many bits of \
-         min-entropy a sample has, {BITS}"
-    )
-}
-
-/// The name of a new file that an option brings. What looks like an option is none.
-fn new_file(option: &str, value: Option<OsString>) -> Result<PathBuf, String> {
-    let wanted = format!("{option} takes the name of a new file");
-    let value = value.filter(|value| !value.is_empty());
-    let value = value.ok_or(format!("{wanted}, and none is given"))?;
-    if value.as_bytes().starts_with(b"-") {
-        let value = names::printable(&text(&value));
-        return Err(format!(
-            "{wanted}, not '{value}'; a file of that name is ./{value}"
-        ));
-    }
-    Ok(value.into())
 }
 
 /// Whether there are files, each with a name, and standard input at most once.
@@ -306,15 +244,18 @@ mod tests {
 
     #[test]
     fn records_go_to_a_file_and_are_shown() {
-        for line in [
-            "rate a --width 4 --records b=c",
-            "rate --records=b=c --width=4 a",
+        for (line, kind) in [
+            ("rate a --width 4 --records b=c", 2),
+            ("rate --records=b=c --width=4 a", 2),
+            ("rate --kind 1 --records=b=c --width=4 a", 1),
+            ("rate a --width 4 --records b=c --kind=2", 2),
         ] {
             let Ok(Call::Rate(call)) = read_line(line) else {
                 panic!("{line}");
             };
+            let file = "b=c".into();
             assert_eq!(call.files, [PathBuf::from("a")]);
-            assert_eq!(call.records, Some("b=c".into()));
+            assert_eq!(call.records, Some(Out { file, kind }));
         }
         let shown = |files: &[&str], json| {
             let files = files.iter().map(PathBuf::from).collect();
@@ -348,7 +289,7 @@ mod tests {
             panic!("the call is read");
         };
         let records = call.records.expect("a name is given");
-        assert_eq!(records.as_os_str().as_bytes(), b"\xff.rec");
+        assert_eq!(records.file.as_os_str().as_bytes(), b"\xff.rec");
     }
 
     #[test]
@@ -357,94 +298,6 @@ mod tests {
         assert_eq!(read_line("rate --help"), Ok(Call::Help));
         assert_eq!(read_line("-V"), Ok(Call::Version));
         assert_eq!(read_line("rate --version --help"), Ok(Call::Version));
-    }
-
-    /// What is said of a call with `--width=` and this value.
-    fn of_width(value: &str) -> String {
-        let words = ["rate", "a.bin", &format!("--width={value}")].map(OsString::from);
-        let call = read(words.into_iter());
-        call.expect_err(value)
-    }
-
-    #[test]
-    fn a_whole_number_that_is_no_width_is_told_as_such() {
-        for zero in ["0", "0000", "+0"] {
-            let start = format!("{zero} is no width (answer 7), and a width field that was left ");
-            assert!(of_width(zero).starts_with(&start), "{zero}");
-        }
-        for many in ["9", "09", "+9", "255", "256", "300", &"7".repeat(40)] {
-            let start = format!("{many} is no width (answer 7): say with --width ");
-            assert!(of_width(many).starts_with(&start), "{many}");
-        }
-    }
-
-    #[test]
-    fn a_width_that_is_no_whole_number_is_told_otherwise() {
-        assert!(of_width("").ends_with(EMPTY));
-        for value in [
-            "x", "8\n8", "-1", "-0", "1.5", "+", "++0", "300x", "0x8", " 8", "\u{666}",
-        ] {
-            let said = of_width(value);
-            let start = "--width takes a number from 1 to 8, not '";
-            assert!(said.starts_with(start), "{said}");
-        }
-    }
-
-    #[test]
-    fn the_widths_that_are_taken_are_those_of_the_library() {
-        for width in 0..=255 {
-            let call = read_line(&format!("rate a.bin --width {width}"));
-            let taken = call == expected(&["a.bin"], width, false, 2);
-            let number = abutfern::bit(&[0], width, 0).number;
-            assert_eq!(number, if taken { 0 } else { 7 }, "{width}");
-        }
-    }
-
-    /// What becomes of a call with `--entropy=` and this value.
-    fn of_entropy(value: &str) -> Result<Call, String> {
-        let words = ["health", "a.bin", &format!("--entropy={value}")].map(OsString::from);
-        read(words.into_iter())
-    }
-
-    #[test]
-    fn the_entropies_that_are_taken_are_those_of_the_library() {
-        let near = [1.0 / 64.0, 1.0, 8.0].map(|near: f64| [near.next_down(), near, near.next_up()]);
-        let far = [0.0, -0.0, -1.0, 1e-300, 1e300, f64::INFINITY, f64::NAN];
-        for entropy in near.into_iter().flatten().chain(far) {
-            let call = of_entropy(&format!("{entropy:?}"));
-            let number = abutfern::repetition_cutoff(entropy).number;
-            assert_eq!(number, if call.is_ok() { 0 } else { 5 }, "{entropy:?}");
-        }
-    }
-
-    #[test]
-    fn a_number_that_is_no_entropy_is_told_as_such() {
-        for (given, origin) in [
-            ("0", ", and 0 is the figure of a board that gives nothing"),
-            (
-                "-0.0",
-                ", and 0 is the figure of a board that gives nothing",
-            ),
-            ("-1", ", and -1 stands where there is no board figure"),
-            ("0.015", ""),
-            ("8.0000001", ""),
-            ("NaN", ""),
-            ("-inf", ""),
-        ] {
-            let start = format!("{given} is no entropy to test for (answer 5){origin}: say with ");
-            let said = of_entropy(given).expect_err(given);
-            assert!(said.starts_with(&start), "{said}");
-        }
-    }
-
-    #[test]
-    fn an_entropy_that_is_no_number_is_told_otherwise() {
-        assert!(of_entropy("").is_err_and(|said| said.ends_with(EMPTY)));
-        for value in ["x", "1/64", "1,5", " 1", "2\n", "0x1", "1 bit"] {
-            let said = of_entropy(value).expect_err(value);
-            let start = "--entropy takes a decimal number of bits, 1/64 to 8, not '";
-            assert!(said.starts_with(start), "{said}");
-        }
     }
 
     #[test]
@@ -466,11 +319,15 @@ mod tests {
             "rate a.bin --width 8 --records -",
             "rate a.bin --width 8 --records --json",
             "rate a.bin --width 8 --records b --records c",
+            "rate a.bin --width 8 --records b --kind",
+            "rate a.bin --width 8 --records b --kind 3",
+            "rate a.bin --width 8 --kind 1",
             "show",
             "show - -",
             "show a.rec --width 8",
             "show a.rec --json=yes",
             "show a.rec --records b",
+            "show a.rec --kind 1",
             "health",
             "health a.bin",
             "health --entropy 1",

@@ -4,8 +4,8 @@
 use crate::rate::{ESTIMATORS, Estimator, Rating};
 use crate::repetition::Heard;
 use crate::row::{Bad, Record, Row};
-use abutfern::Answer;
 use abutfern::numbers::meaning;
+use abutfern::{Answer, Winner};
 
 /// The object of one file.
 pub fn text(file: &str, rating: &Rating) -> String {
@@ -42,7 +42,7 @@ fn estimate(estimator: &Estimator, answer: &Answer, rating: &Rating) -> String {
         quoted(meaning(answer.number))
     );
     let rest = match answer.number {
-        0 => ran(answer),
+        0 => ran(answer) + &rated(estimator, answer),
         3 => format!(r#","place":{}"#, answer.place),
         6 => shortage(estimator, rating),
         _ => String::new(),
@@ -77,6 +77,25 @@ fn ran(answer: &Answer) -> String {
         e.p_global_prime,
         e.min_entropy
     )
+}
+
+/// Who won, by its number and by the window or prefix that this is.
+fn rated(estimator: &Estimator, answer: &Answer) -> String {
+    let memory = &estimator.memory;
+    let length = memory.of(answer.winner);
+    let length = length.map_or("null".to_string(), |length| length.to_string());
+    format!(
+        r#","winner":{},"{}":{length},"score":{}"#,
+        answer.winner, memory.name, answer.score
+    )
+}
+
+/// Who won, as a record tells it: `null` where it does not.
+fn recorded(winner: Option<Winner>) -> String {
+    match winner {
+        None => r#","winner":null,"score":null"#.to_string(),
+        Some(Winner { winner, score }) => format!(r#","winner":{winner},"score":{score}"#),
+    }
 }
 
 fn figure(rating: &Rating) -> String {
@@ -125,10 +144,12 @@ fn record(record: &Record) -> String {
         _ => String::new(),
     };
     format!(
-        r#"{{"byte":{},"number":{},"answer":{}{rest}}}"#,
+        r#"{{"byte":{},"kind":{},"number":{},"answer":{}{rest}{}}}"#,
         record.byte,
+        record.kind,
         answer.number,
-        quoted(meaning(answer.number))
+        quoted(meaning(answer.number)),
+        recorded(record.winner)
     )
 }
 
@@ -175,10 +196,18 @@ fn quoted(text: &str) -> String {
 
 #[cfg(test)]
 mod tests {
-    use super::quoted;
+    use super::*;
 
     #[test]
     fn names_are_quoted() {
         assert_eq!(quoted("a\"b\\c\n"), r#""a\"b\\c\u000a""#);
+    }
+
+    #[test]
+    fn who_predicted_is_null_where_it_is_absent_and_0_where_there_is_none() {
+        let told = |winner, score| recorded(Some(Winner { winner, score }));
+        assert_eq!(recorded(None), r#","winner":null,"score":null"#);
+        assert_eq!(told(0, 0), r#","winner":0,"score":0"#);
+        assert_eq!(told(2, 12_345), r#","winner":2,"score":12345"#);
     }
 }

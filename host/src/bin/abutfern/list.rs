@@ -2,6 +2,7 @@
 
 use crate::row::{Bad, Record, Row};
 use crate::table::{grouped, local, rounded_down};
+use crate::winner;
 use abutfern::Answer;
 use abutfern::numbers::meaning;
 
@@ -25,17 +26,19 @@ pub fn text(file: &str, row: &Row) -> String {
 }
 
 const HEADER: &str = concat!(
-    "  record       byte  answer     k       place            C            N  longest run  rounds",
-    "   p_global   p_global'   p_local  min-entropy\n"
+    "  record       byte  kind  answer     k       place            C            N  longest run",
+    "  rounds   p_global   p_global'   p_local  min-entropy  winner\n"
 );
 
 fn line(place: u64, record: &Record) -> String {
     let [k, at, c, n, run, rounds, global, upper, local, entropy] = cells(&record.answer);
     let (answer, reason) = words(record.answer.number);
-    let head = format!("{:>6} {:>10}", grouped(place), grouped(record.byte));
+    let (place, byte) = (grouped(place), grouped(record.byte));
+    let head = format!("{place:>6} {byte:>10}  {:>4}", record.kind);
     let counts = format!("{k:>4} {at:>11} {c:>12} {n:>12} {run:>12} {rounds:>7}");
     let floats = format!("{global:>9}  {upper:>10} {local:>9}  {entropy:>11}");
-    format!("  {head}  {answer:<7} {counts}  {floats}{reason}\n")
+    let winner = winner::recorded(record.winner);
+    format!("  {head}  {answer:<7} {counts}  {floats}  {winner}{reason}\n")
 }
 
 /// What an answer has, from k to the min-entropy; a dash for what it has not.

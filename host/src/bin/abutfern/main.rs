@@ -18,8 +18,10 @@ mod row;
 mod show;
 mod streams;
 mod table;
+mod values;
 mod verdict;
 mod whole;
+mod winner;
 mod work;
 
 use arguments::Call;

@@ -1,5 +1,6 @@
 //! The four estimates of a capture and its board figure.
 
+use crate::winner::{Memory, PREFIXES, WINDOWS};
 use abutfern::numbers::{COUNTERS, MCW_SAMPLES, MMC_SAMPLES, SPACE, meaning};
 use abutfern::{Answer, Figure};
 
@@ -10,6 +11,8 @@ pub struct Estimator {
     pub sample: &'static str,
     /// The least number of samples that it runs on.
     pub least: usize,
+    /// What its sub-predictors look back on.
+    pub memory: Memory,
 }
 
 /// The estimators, in the order of the board figure.
@@ -18,21 +21,25 @@ pub const ESTIMATORS: [Estimator; 4] = [
         name: "MultiMCW bits",
         sample: "bit",
         least: MCW_SAMPLES,
+        memory: WINDOWS,
     },
     Estimator {
         name: "MultiMCW literal",
         sample: "symbol",
         least: MCW_SAMPLES,
+        memory: WINDOWS,
     },
     Estimator {
         name: "MultiMMC bits",
         sample: "bit",
         least: MMC_SAMPLES,
+        memory: PREFIXES,
     },
     Estimator {
         name: "MultiMMC literal",
         sample: "symbol",
         least: MMC_SAMPLES,
+        memory: PREFIXES,
     },
 ];
 

@@ -2,29 +2,31 @@
 
 use crate::rate::{ESTIMATORS, Rated};
 use crate::{names, streams, whole};
-use abutfern::{Answer, RECORD_SIZE};
+use abutfern::{Answer, NAMED_RECORD_SIZE};
 use std::path::Path;
-
-/// The kind of the records that are written: an answer.
-const KIND: u64 = 1;
 
 /// A row of records without a name in it: each is known by its place alone.
 pub struct Records<'a> {
     out: &'a Path,
+    /// The kind of each.
+    kind: u64,
+    count: u64,
     bytes: Vec<u8>,
     /// The first reason not to write them.
     gap: Option<String>,
 }
 
 impl<'a> Records<'a> {
-    /// Records for a file that can be made; where it cannot, it says so.
-    pub fn to(out: &'a Path) -> Option<Self> {
+    /// Records of a kind for a file that can be made; where it cannot, it says so.
+    pub fn to(out: &'a Path, kind: u64) -> Option<Self> {
         if let Err(error) = whole::can_be(out) {
             streams::say(&format!("{} {error}", names::shown(out)));
             return None;
         }
         Some(Self {
             out,
+            kind,
+            count: 0,
             bytes: Vec::new(),
             gap: None,
         })
@@ -50,11 +52,13 @@ impl<'a> Records<'a> {
     }
 
     fn push(&mut self, answer: &Answer) -> Result<(), String> {
-        let mut record = [0; RECORD_SIZE];
-        match abutfern::write_record(answer, KIND, &mut record).number {
-            0 => self.bytes.extend(record),
+        let mut record = [0; NAMED_RECORD_SIZE];
+        let written = abutfern::write_record(answer, true, self.kind, &mut record);
+        match written.number {
+            0 => self.bytes.extend(&record[..written.size as usize]),
             number => return Err(format!("{NO_RECORD} (answer {number}): {ANEW}")),
         }
+        self.count += 1;
         Ok(())
     }
 
@@ -68,8 +72,9 @@ impl<'a> Records<'a> {
         let written = whole::write(self.out, &self.bytes);
         match &written {
             Ok(()) => streams::say(&format!(
-                "{out} has {} records, {} of each capture in the order given",
-                self.bytes.len() / RECORD_SIZE,
+                "{out} has {} records of kind {}, {} of each capture in the order given",
+                self.count,
+                self.kind,
                 ESTIMATORS.len()
             )),
             Err(error) => streams::say(&format!("{out} {error}")),

@@ -2,7 +2,10 @@
 
 use crate::{files, reason};
 use abutfern::numbers::meaning;
-use abutfern::{Answer, RECORD_SIZE, read_record, read_records};
+use abutfern::{
+    Answer, NAMED_RECORD_KIND, NAMED_RECORD_SIZE, RECORD_KIND, Reading, Winner, read_record,
+    read_records,
+};
 use std::io::Read;
 use std::path::Path;
 
@@ -19,7 +22,10 @@ pub struct Row {
 pub struct Record {
     /// The byte of the file that it begins at.
     pub byte: u64,
+    pub kind: u64,
     pub answer: Answer,
+    /// Who predicted, where its kind tells it.
+    pub winner: Option<Winner>,
 }
 
 /// The first bad record.
@@ -34,7 +40,11 @@ pub struct Bad {
 /// How much of a file is read before it is looked at: one that is no row of records may be endless.
 const BLOCK: u64 = 1 << 20;
 
-/// Reads a file of records, or standard input, no further than the block with the first bad one.
+/// How many bytes the largest record takes. With fewer left, the end of a block may have cut it.
+const LARGEST: usize = NAMED_RECORD_SIZE;
+
+/// Reads a file of records, or standard input, no further than the block in which the first bad one
+/// would end.
 pub fn read(path: &Path) -> Result<Row, String> {
     let (mut file, _) = files::open(path, "files of records")?;
     let mut bytes = Vec::new();
@@ -46,7 +56,7 @@ pub fn read(path: &Path) -> Result<Row, String> {
         row.good += next.good;
         row.byte += next.byte;
         row.number = next.number;
-        let cut = bytes.len() - (row.byte as usize) < RECORD_SIZE;
+        let cut = bytes.len() - (row.byte as usize) < LARGEST;
         if ended || !cut {
             return Ok(told(&bytes, &row));
         }
@@ -61,7 +71,9 @@ fn told(bytes: &[u8], row: &abutfern::Row) -> Row {
         let reading = read_record(rest);
         records.push(Record {
             byte: (bytes.len() - rest.len()) as u64,
+            kind: kind(&reading),
             answer: reading.answer,
+            winner: reading.winner(),
         });
         rest = &rest[reading.size as usize..];
     }
@@ -72,4 +84,12 @@ fn told(bytes: &[u8], row: &abutfern::Row) -> Row {
         reason: reason::of(rest).unwrap_or(meaning(row.number).to_string()),
     });
     Row { records, bad }
+}
+
+/// The kind of a record that was read.
+fn kind(reading: &Reading) -> u64 {
+    match reading.winner() {
+        Some(_) => NAMED_RECORD_KIND,
+        None => RECORD_KIND,
+    }
 }

@@ -1,6 +1,7 @@
 //! A rating as a table for people.
 
 use crate::rate::{ESTIMATORS, Estimator, Rating};
+use crate::winner;
 use abutfern::Answer;
 use abutfern::numbers::meaning;
 
@@ -16,6 +17,7 @@ pub fn text(file: &str, rating: &Rating) -> String {
         let row = row(estimator, answer, rating);
         text += &format!("  {:<17} {row}\n", estimator.name);
     }
+    text += &winners(rating);
     if let Some((count, first)) = rating.wide {
         text += &format!(
             "\n  note: symbols with bits above width {}: {}, the first at place {}. The bitstring track\n  \
@@ -61,6 +63,25 @@ fn row(estimator: &Estimator, answer: &Answer, rating: &Rating) -> String {
         number => format!("refused: {} (answer {number})", meaning(number)),
     }
 }
+
+/// Who won each estimate that ran: the lengths stand below each other, so that short and long
+/// memory are told apart at a glance.
+fn winners(rating: &Rating) -> String {
+    let answers = ESTIMATORS.iter().zip(&rating.answers);
+    let lines: String = answers
+        .filter(|(_, answer)| answer.number == 0)
+        .map(|(estimator, answer)| {
+            let winner = winner::rated(estimator, answer);
+            format!("  {:<17} {winner}\n", estimator.name)
+        })
+        .collect();
+    if lines.is_empty() {
+        return lines;
+    }
+    format!("\n{WINNERS}{lines}")
+}
+
+const WINNERS: &str = "  estimator         winner, by its window or prefix in samples\n";
 
 /// p_local, which is there only if it was solved.
 pub fn local(p_local: f64) -> String {

@@ -15,7 +15,7 @@ pub fn rate_all(call: &Rate) -> bool {
     let Some(out) = &call.records else {
         return each_rated(call, &mut None);
     };
-    let mut records = Records::to(out);
+    let mut records = Records::to(&out.file, out.kind);
     if records.is_none() {
         return false;
     }
@@ -104,7 +104,7 @@ fn print(file: &Path, rated: &Rated, call: &Rate) -> bool {
     };
     if !streams::print(&text) {
         if let Some(out) = &call.records {
-            streams::say(&format!("{} {NOT_ALL}", names::shown(out)));
+            streams::say(&format!("{} {NOT_ALL}", names::shown(&out.file)));
         }
         std::process::exit(1);
     }

@@ -27,7 +27,7 @@ bench: the library's time beside the Rust's, both built for release
   --symbols N   symbols in a capture (default 1000000)
   --only NAME   one function, as multi_mcw_literal, or lookup: the translators beside a plain
                 loop in C over a table of 256, or calls: the functions of numbers, or records: a
-                row of 1,000,000 of them, or repetition: the repetition test, a call a sample
+                row of 1,000,000 of each kind, or repetition: the repetition test, a call a sample
   --grow        the library's time for 10,000 to 16,777,216 symbols instead; a length that would
                 take over five minutes is left out
 

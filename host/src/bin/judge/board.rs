@@ -58,6 +58,8 @@ fn answer(number: u64, min_entropy: f64, random: &mut Random) -> Answer {
     let mut answer = plain::refused((number, random.below(9)));
     answer.k = random.below(257);
     answer.rounds = random.word();
+    answer.winner = random.word();
+    answer.score = random.word();
     answer.estimate.c = random.word();
     answer.estimate.p_local = any(random);
     answer.estimate.min_entropy = min_entropy;

@@ -39,8 +39,34 @@ pub fn random_capture(length: usize, random: &mut Random) -> Vec<u8> {
 }
 
 fn shaped(length: usize, values: usize, random: &mut Random) -> Vec<u8> {
-    let shape = random.one_of(&SHAPES);
-    capture(shape, values, length, || random.word() >> 40)
+    match random.below(8) {
+        0 => stretches(length, random),
+        1 => repeated(length, values, random),
+        _ => capture(random.one_of(&SHAPES), values, length, || {
+            random.word() >> 40
+        }),
+    }
+}
+
+/// A short random row of symbols, again and again: a few symbols of memory guess it, one does not.
+pub fn repeated(length: usize, values: usize, random: &mut Random) -> Vec<u8> {
+    let period = 3 + random.index(20);
+    let row = capture(SHAPES[0], values, period, || random.word() >> 40);
+    row.into_iter().cycle().take(length).collect()
+}
+
+/// Zeros and ones by turns, a stretch of each: of lengths that mislead short levels, or that mislead
+/// short windows, so that longer ones win.
+pub fn stretches(length: usize, random: &mut Random) -> Vec<u8> {
+    let (zeros, ones) = if random.chance(2, 3) {
+        (1 + random.index(17), 1 + random.index(2))
+    } else {
+        let window = random.one_of(&[63, 63, 255, 1023]);
+        let ones = window / 2 + 1 + random.index(window / 3);
+        (ones * (3 + random.index(3)), ones)
+    };
+    let one = |place: usize| u8::from(place % (zeros + ones) >= zeros);
+    (0..length).map(one).collect()
 }
 
 /// Gives every value another one, all different.
@@ -72,9 +98,8 @@ pub fn damage(symbols: &mut [u8], random: &mut Random) {
 
 /// A random capture whose symbols are all 0 or 1.
 pub fn random_bits(length: usize, random: &mut Random) -> Vec<u8> {
-    let shape = random.one_of(&SHAPES);
     let values = random.one_of(&[1, 2, 2, 2, 2]);
-    let mut symbols = capture(shape, values, length, || random.word() >> 40);
+    let mut symbols = shaped(length, values, random);
     for _ in 0..random.below(4) {
         if length > 0 {
             symbols[random.index(length)] ^= 1;

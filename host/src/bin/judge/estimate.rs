@@ -1,6 +1,7 @@
 //! One estimate of the library beside the Rust's, by document 01's rules of closeness.
 
 use crate::floats::same;
+use crate::race::Outcome;
 use crate::tally::Tally;
 use crate::trip;
 use abutfern::numbers::ROUND_LIMIT;
@@ -14,9 +15,15 @@ const NEAR: f64 = 1e-6;
 /// Bounds further apart than this leave a bisection that an interval check ended uncompared.
 const APART: f64 = 1e-9;
 
-/// The faults of an answer 0, and of its record, against the Rust's estimate over an alphabet of
-/// size k.
-pub fn faults(ours: &Answer, rust: &PredictionEstimate, k: u64, tally: &mut Tally) -> Vec<String> {
+/// The faults of an answer 0, and of its records, against the Rust's estimate over an alphabet of
+/// size k, and against a race over the same samples, which says who predicted.
+pub fn faults(
+    ours: &Answer,
+    rust: &PredictionEstimate,
+    k: u64,
+    race: &Outcome,
+    tally: &mut Tally,
+) -> Vec<String> {
     let mut faults = Vec::from_iter(trip::fault(ours));
     let counts = (ours.estimate.c, ours.estimate.n, ours.estimate.max_run_len);
     if (ours.number, ours.place, ours.k) != (0, 0, k) {
@@ -27,9 +34,24 @@ pub fn faults(ours: &Answer, rust: &PredictionEstimate, k: u64, tally: &mut Tall
         faults.push(format!("counts {counts:?} of {ours:?}, not {rust:?}"));
         return faults;
     }
+    race_faults(ours, rust, race, &mut faults);
+    if race.winner > 1 {
+        tally.note("not won by the shortest window or level");
+    }
     global_faults(ours, rust, &mut faults);
     local_faults(ours, rust, k, &mut faults, tally);
     faults
+}
+
+/// The Rust does not say who predicted. A race with its C, N and longest run is taken for its race.
+fn race_faults(ours: &Answer, rust: &PredictionEstimate, race: &Outcome, faults: &mut Vec<String>) {
+    if race.counts() != (rust.c, rust.n, rust.max_run_len) {
+        faults.push(format!("the judge's own race, {race:?}, is not the Rust's"));
+    }
+    if (ours.winner, ours.score) != (race.winner, race.score) {
+        let (winner, score) = (ours.winner, ours.score);
+        faults.push(format!("winner {winner} with score {score}, not {race:?}"));
+    }
 }
 
 fn global_faults(ours: &Answer, rust: &PredictionEstimate, faults: &mut Vec<String>) {

@@ -52,7 +52,12 @@ const FAMILIES: [Family; 10] = [
     Family {
         name: "rules",
         weight: 1,
-        functions: &["multi_mmc", "multi_mmc_literal"],
+        functions: &[
+            "multi_mcw",
+            "multi_mcw_literal",
+            "multi_mmc",
+            "multi_mmc_literal",
+        ],
         judge: rules::judge,
     },
     Family {

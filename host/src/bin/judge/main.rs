@@ -24,8 +24,11 @@ mod exact;
 mod families;
 #[cfg_attr(not(has_reference), allow(dead_code))]
 mod floats;
+#[cfg(any(has_reference, test))]
+mod history;
 #[cfg(has_reference)]
 mod lent;
+mod levels;
 #[cfg(has_reference)]
 mod lists;
 #[cfg(has_reference)]
@@ -36,6 +39,8 @@ mod mmc;
 mod plain;
 #[cfg(has_reference)]
 mod prediction;
+#[cfg_attr(not(has_reference), allow(dead_code))]
+mod race;
 #[cfg(has_reference)]
 mod reader;
 #[cfg(has_reference)]
@@ -47,6 +52,7 @@ mod repeats;
 #[cfg(has_reference)]
 mod repetition;
 mod replay;
+mod replies;
 #[cfg(has_reference)]
 mod rows;
 #[cfg(has_reference)]
@@ -59,7 +65,10 @@ mod standing;
 mod states;
 #[cfg_attr(not(has_reference), allow(dead_code))]
 mod tally;
+mod tracks;
 mod trip;
+#[cfg_attr(not(has_reference), allow(dead_code))]
+mod windows;
 
 use arguments::Arguments;
 use std::process::ExitCode;

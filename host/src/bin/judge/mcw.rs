@@ -1,9 +1,12 @@
 //! MultiMCW on both tracks.
 
-use crate::captures::{TRIED, described, fitting, random_capture, refusable, some_width};
+use crate::captures::{
+    TRIED, described, fitting, random_bits, random_capture, refusable, some_width,
+};
 use crate::lent::{Lent, bytes, length_near};
 use crate::tally::{Clock, Tally};
-use crate::{estimate, plain, trip};
+use crate::windows::{self, WINDOWS};
+use crate::{estimate, plain, tracks, trip};
 use abutfern::numbers::{MCW_SAMPLES, SYMBOL_LIMIT};
 use abutfern::random::Random;
 use abutfern::{exported, reference};
@@ -15,6 +18,7 @@ pub fn judge(clock: Clock, random: &mut Random) -> u64 {
         differ += bits_around(clock.part(5), random) + bits_long(clock.part(4), random);
         differ += every_width(random);
     }
+    differ += turning(clock.part(6), random);
     if exported("multi_mcw_literal") {
         differ += literals_around(clock.part(2), random) + literals_long(clock.part(1), random);
     }
@@ -28,7 +32,8 @@ fn compare_bits(symbols: &[u8], width: u8, tally: &mut Tally) {
         Some(refusal) => refusal_faults(&ours, refusal),
         None => {
             let rust = reference::multi_mcw::multi_mcw(symbols, width).estimate;
-            estimate::faults(&ours, &rust, 2, tally)
+            let race = tracks::mcw_bits(symbols, width);
+            estimate::faults(&ours, &rust, 2, &race, tally)
         }
     };
     tally.judge(faults, || {
@@ -57,7 +62,8 @@ fn compare_literal(
         None => {
             let (translated, size) = reference::dense(symbols);
             let rust = reference::multi_mcw::multi_mcw_literal(symbols).estimate;
-            let faults = estimate::faults(&ours, &rust, size as u64, tally);
+            let race = tracks::mcw_literal(symbols);
+            let faults = estimate::faults(&ours, &rust, size as u64, &race, tally);
             (faults, translated)
         }
     };
@@ -97,6 +103,29 @@ fn every_width(random: &mut Random) -> u64 {
     for symbols in refusable(random) {
         for width in 0..=u8::MAX {
             compare_bits(&symbols, width, &mut tally);
+        }
+    }
+    tally.close()
+}
+
+/// Captures that end where another window takes the lead, a place before and a place after.
+fn turning(clock: Clock, random: &mut Random) -> u64 {
+    let mut tally = Tally::new("multi_mcw and literal: cut where the winner changes");
+    let mut lent = bytes(MCW_SAMPLES + 8000, random);
+    for () in clock.turns() {
+        let symbols = random_bits(MCW_SAMPLES + random.index(8000), random);
+        let turns = windows::race(&symbols).turns.into_iter();
+        let ends = turns.map(|n| n as usize + WINDOWS[0]);
+        for end in ends.filter(|end| *end > MCW_SAMPLES).take(4) {
+            for length in [end - 1, end, (end + 1).min(symbols.len())] {
+                let cut = &symbols[..length];
+                if exported("multi_mcw") {
+                    compare_bits(cut, 1, &mut tally);
+                }
+                if exported("multi_mcw_literal") {
+                    compare_literal(cut, length, &mut lent, random, &mut tally);
+                }
+            }
         }
     }
     tally.close()

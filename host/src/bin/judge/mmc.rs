@@ -8,7 +8,7 @@ use crate::lent::{Lent, bytes, length_near, words};
 use crate::mcw::refusal_faults;
 use crate::space::Space;
 use crate::tally::{Clock, Tally, spread};
-use crate::{estimate, plain, trip};
+use crate::{estimate, plain, tracks, trip};
 use abutfern::numbers::{COUNTERS, SPACE, SYMBOL_LIMIT};
 use abutfern::random::Random;
 use abutfern::shapes::{Shape, capture};
@@ -81,7 +81,8 @@ impl Bench {
             None => {
                 count(&reference::bitstring(symbols, width), &mut self.counts);
                 let rust = reference::multi_mmc::multi_mmc(symbols, width).estimate;
-                estimate::faults(&ours, &rust, 2, tally)
+                let race = tracks::mmc_bits(symbols, width);
+                estimate::faults(&ours, &rust, 2, &race, tally)
             }
         };
         faults.extend(self.counters.fault(&self.counts));
@@ -112,7 +113,8 @@ impl Bench {
         }
         let (translated, size) = reference::value_sorted(symbols);
         let rust = reference::multi_mmc::multimmc_literal(symbols).estimate;
-        let faults = estimate::faults(ours, &rust, size.max(2) as u64, tally);
+        let race = tracks::mmc_literal(symbols);
+        let faults = estimate::faults(ours, &rust, size.max(2) as u64, &race, tally);
         let zeros = if size <= 2 {
             count(&translated, &mut self.counts);
             0

@@ -24,6 +24,8 @@ pub fn refused((number, place): Refusal) -> Answer {
         place,
         k: 0,
         rounds: 0,
+        winner: 0,
+        score: 0,
         estimate: Estimate {
             c: 0,
             n: 0,

@@ -2,6 +2,7 @@
 
 use crate::floats::{any, near, same};
 use crate::mcw::refusal_faults;
+use crate::race::Outcome;
 use crate::tally::{Clock, Tally, spread};
 use crate::{estimate, floats, plain};
 use abutfern::numbers::PREDICTION_LIMIT;
@@ -35,7 +36,8 @@ fn compare(c: u64, n: u64, max_run_len: u64, k: u64, tally: &mut Tally) {
         refusal_faults(&ours, (4, 0))
     } else {
         let rust = reference::prediction::prediction_estimate(c, n, max_run_len, k);
-        estimate::faults(&ours, &rust, k, tally)
+        let counted = Outcome::of_counts(c, n, max_run_len);
+        estimate::faults(&ours, &rust, k, &counted, tally)
     };
     tally.judge(faults, || format!("C {c}, N {n}, run {max_run_len}, k {k}"));
 }

@@ -1,14 +1,16 @@
 //! Records of answers beside a second, plain codec: the writer. The readers stand in other files.
 
 use crate::answers::{disturbed, good, of_each_number, of_no_number, of_other_fields};
+use crate::codec::{self, Held};
 use crate::lent::{Lent, bytes};
+use crate::replies::{reading, same, written};
+use crate::rows;
 use crate::tally::{Clock, Tally};
-use crate::{codec, rows};
 use abutfern::random::Random;
-use abutfern::{Answer, RECORD_SIZE, exported};
+use abutfern::{Answer, NAMED_RECORD_SIZE, Written, exported, ffi};
 
 /// Kinds that are asked for.
-pub const KINDS: [u64; 15] = [
+pub const ASKED: [u64; 19] = [
     0,
     1,
     2,
@@ -17,17 +19,24 @@ pub const KINDS: [u64; 15] = [
     255,
     256,
     257,
+    258,
     65_535,
     65_536,
     65_537,
+    65_538,
     1 << 32,
     (1 << 32) + 1,
+    (1 << 32) + 2,
     (1 << 63) + 1,
+    (1 << 63) + 2,
     u64::MAX,
 ];
 
+/// Numbers that say that winner and score are there: all but 0.
+const TOLD: [u64; 5] = [1, 2, 1 << 8, 1 << 32, u64::MAX];
+
 /// The longest buffer that the writer is lent.
-const LONGEST: usize = 70;
+const LONGEST: usize = 75;
 
 /// Judges what of the family exists; returns how many differ.
 pub fn judge(clock: Clock, random: &mut Random) -> u64 {
@@ -52,55 +61,82 @@ pub struct Bench {
     pub lent: Lent<u8>,
 }
 
+/// What the writer is asked for.
+struct Asked {
+    answer: Answer,
+    /// 0 where the answer's winner and score are absent.
+    told: u64,
+    kind: u64,
+}
+
+impl Asked {
+    fn held(&self) -> Held {
+        Held::of(&self.answer, self.told != 0)
+    }
+
+    /// The writer as C calls it, which may say in any number but 0 that winner and score are there.
+    fn write(&self, out: &mut [u8]) -> Written {
+        let (out, length) = (out.as_mut_ptr(), out.len());
+        // The pointer and the length are those of a slice that outlives the call.
+        unsafe { ffi::abutfern_write_record(self.answer, self.told, self.kind, out, length) }
+    }
+
+    /// Whether a record just written reads as what it holds, if there is a reader.
+    fn reads_again(&self, record: &[u8]) -> bool {
+        let held = self.held().in_kind(self.kind);
+        !exported("read_record") || same(&abutfern::read_record(record), &reading(Ok(held)))
+    }
+}
+
 impl Bench {
     /// Compares one record and all of the memory that it is written into, at any alignment, and
     /// reads it again.
-    fn write(
-        &mut self,
-        answer: &Answer,
-        kind: u64,
-        length: usize,
-        random: &mut Random,
-        tally: &mut Tally,
-    ) {
+    fn write(&mut self, asked: &Asked, length: usize, random: &mut Random, tally: &mut Tally) {
         let skip = random.index(8);
         let lent = self.lent.lend(skip + length, random);
         let mut memory = lent[..skip].to_vec();
-        let ours = abutfern::write_record(answer, kind, &mut lent[skip..]);
-        let again = (ours.number == 0).then(|| read_again(&lent[skip..]));
-        let expected = codec::encode(answer, kind, length);
+        let ours = asked.write(&mut lent[skip..]);
+        let again = ours.number != 0 || asked.reads_again(&lent[skip..]);
+        let expected = codec::encode(&asked.held(), asked.kind, length);
         let mut faults = Vec::new();
-        if ours != codec::written(&expected) {
+        if ours != written(&expected) {
             faults.push(format!("{ours:?}, not {expected:?}"));
         }
-        if again.flatten().is_some_and(|again| again != answer.words()) {
+        if !again {
             faults.push("it reads as another answer".to_string());
         }
         memory.extend(expected.iter().flatten());
         faults.extend(self.lent.fault(&memory));
         tally.note(outcome(ours.number));
         tally.judge(faults, || {
-            format!("{answer:?} as kind {kind} into {length} bytes, {skip} past a start")
+            let Asked { answer, told, kind } = asked;
+            format!("{answer:?}, told {told}, as kind {kind} into {length}, {skip} past a start")
         });
     }
 
-    /// Each field of each answer changed to each mark.
+    /// Each field of each answer changed to each mark, in both kinds, winner and score told or not.
     fn write_fields(&mut self, random: &mut Random) -> u64 {
         let mut tally = Tally::new("write_record: each field at and beside every limit");
         for answer in of_other_fields() {
-            let length = RECORD_SIZE + random.index(2);
-            self.write(&answer, codec::KIND, length, random, &mut tally);
+            for (told, kind) in [(1, 1), (1, 2), (0, 1), (0, 2)] {
+                let length = codec::size(kind) + random.index(2);
+                let asked = Asked { answer, told, kind };
+                self.write(&asked, length, random, &mut tally);
+            }
         }
         tally.close()
     }
 
-    /// Every kind and buffer, for answers of every number.
+    /// Every kind and buffer, for answers of every number, winner and score told or not.
     fn write_kinds(&mut self, random: &mut Random) -> u64 {
-        let mut tally = Tally::new("write_record: every kind, buffers of 0 to 70 bytes");
+        let mut tally = Tally::new("write_record: every kind, buffers of 0 to 75 bytes");
         for answer in of_each_number().into_iter().chain(of_no_number()) {
-            for kind in KINDS {
-                for length in 0..=LONGEST {
-                    self.write(&answer, kind, length, random, &mut tally);
+            for kind in ASKED {
+                for told in [0, random.one_of(&TOLD)] {
+                    let asked = Asked { answer, told, kind };
+                    for length in 0..=LONGEST {
+                        self.write(&asked, length, random, &mut tally);
+                    }
                 }
             }
         }
@@ -117,21 +153,29 @@ impl Bench {
                 for _ in 0..random.below(3) {
                     answer = disturbed(&answer, random);
                 }
-                let any = random.one_of(&KINDS);
-                let kind = random.one_of(&[codec::KIND, codec::KIND, codec::KIND, any]);
-                let enough = RECORD_SIZE + random.index(LONGEST - RECORD_SIZE + 1);
+                let asked = some_asked(answer, random);
+                let enough = NAMED_RECORD_SIZE + random.index(LONGEST - NAMED_RECORD_SIZE + 1);
+                let exact = codec::size(asked.kind);
                 let any = random.index(LONGEST + 1);
-                let length = random.one_of(&[enough, enough, enough, any]);
-                self.write(&answer, kind, length, random, &mut tally);
+                let length = random.one_of(&[enough, enough, exact, any]);
+                self.write(&asked, length, random, &mut tally);
             }
         }
         tally.close()
     }
 }
 
-/// The words of the answer that is read from a record just written, if there is a reader.
-fn read_again(record: &[u8]) -> Option<[u64; 11]> {
-    exported("read_record").then(|| abutfern::read_record(record).answer.words())
+/// An answer asked for in some kind. Where its winner and score are absent, its fields for them are
+/// anything at times.
+fn some_asked(mut answer: Answer, random: &mut Random) -> Asked {
+    let any = random.one_of(&ASKED);
+    let kind = random.one_of(&[1, 1, 1, 2, 2, 2, any]);
+    let said = random.one_of(&TOLD);
+    let told = random.one_of(&[0, 1, said]);
+    if told == 0 && random.chance(1, 2) {
+        (answer.winner, answer.score) = (random.word(), random.word());
+    }
+    Asked { answer, told, kind }
 }
 
 /// What a number says of a record.

@@ -2,8 +2,9 @@
 //! out. The Rust itself is not needed.
 
 use crate::floats::{same, units_between};
+use crate::race::Outcome;
 use crate::tally::Tally;
-use crate::trip;
+use crate::{tracks, trip};
 use abutfern::numbers::{COUNTERS, SPACE};
 use abutfern::shapes::{SHAPES, capture, draws};
 use abutfern::{Alphabet, Answer, exported};
@@ -177,7 +178,22 @@ fn estimated(case: &Case, space: &mut Vec<u32>) -> bool {
             (ours, &case.words[..])
         }
     };
-    answered(&ours, words, case.checks) && trip::fault(&ours).is_none()
+    answered(&ours, words, case.checks) && predicted(&ours, case) && trip::fault(&ours).is_none()
+}
+
+/// Whether an answer names who predicted, which the Rust did not say: a race over the same samples
+/// does, and there is nobody in counts alone and in what did not run.
+fn predicted(ours: &Answer, case: &Case) -> bool {
+    let (symbols, width) = (&case.symbols, case.width);
+    let race = match case.kind {
+        11 => tracks::mcw_bits(symbols, width),
+        12 => tracks::mcw_literal(symbols),
+        13 => tracks::mmc_bits(symbols, width),
+        14 | 15 => tracks::mmc_literal(symbols),
+        _ => return (ours.winner, ours.score) == (0, 0),
+    };
+    let nobody = Outcome::of_counts(0, 0, 0);
+    Outcome::of(ours) == if ours.number == 0 { race } else { nobody }
 }
 
 fn bits(case: &Case) -> bool {

@@ -2,11 +2,12 @@
 
 use crate::answers::{disturbed, good};
 use crate::codec;
-use crate::reader::{LENGTHS, relabelled, rubbish, same, some_record};
-use crate::records::{KINDS, outcome};
+use crate::reader::{LENGTHS, either_record, relabelled, rubbish, some_record};
+use crate::records::{ASKED, outcome};
+use crate::replies::{reading, same};
 use crate::tally::{Clock, Tally};
 use abutfern::random::Random;
-use abutfern::{RECORD_SIZE, exported};
+use abutfern::{NAMED_RECORD_SIZE, RECORD_SIZE, exported};
 
 /// Judges the readers of a row that exist; returns how many differ.
 pub fn judge(clock: Clock, random: &mut Random) -> u64 {
@@ -42,7 +43,7 @@ impl Tallies {
         if exported("record_at") {
             for place in places_of(row) {
                 let ours = abutfern::record_at(&lent[..length], place);
-                let expected = codec::reading(codec::at(row, place));
+                let expected = reading(codec::at(row, place));
                 let good = same(&ours, &expected) && lent == bytes;
                 self.places.note(outcome(ours.number));
                 self.places.check(good, || {
@@ -58,44 +59,53 @@ impl Tallies {
     }
 }
 
-/// Every place up to two past the end, or, in a long row, the first and the last ones; places
-/// whose first byte is past what a word can number.
+/// Every place up to two past the end, or, in a long row, the first ones and those around where the
+/// good ones and where the shortest would end; places whose first byte is past what a word can
+/// number.
 fn places_of(row: &[u8]) -> Vec<u64> {
-    let size = RECORD_SIZE as u64;
-    let end = row.len() as u64 / size + 2;
-    let near = (0..=end).filter(|place| *place < 25 || end - place < 5);
-    let far = [u64::MAX / size, u64::MAX / size + 1];
+    let shortest = (row.len() / RECORD_SIZE) as u64;
+    let ends = [codec::row(row).good, shortest];
+    let around = |place: &u64| ends.iter().any(|end| place.abs_diff(*end) < 3);
+    let near = (0..shortest + 3).filter(|place| *place < 25 || around(place));
+    let sizes = [RECORD_SIZE, NAMED_RECORD_SIZE].map(|size| u64::MAX / size as u64);
+    let far = sizes.into_iter().flat_map(|place| [place, place + 1]);
     let ends = [1 << 32, 1 << 63, u64::MAX];
     near.chain(far).chain(ends).collect()
 }
 
 /// A row in words: whole if it is short.
 fn described(row: &[u8]) -> String {
-    if row.len() <= 3 * RECORD_SIZE {
+    if row.len() <= 3 * NAMED_RECORD_SIZE {
         return format!("{row:?}");
     }
-    let first = &row[..RECORD_SIZE];
+    let first = &row[..NAMED_RECORD_SIZE];
     format!("{} bytes, of which the first are {first:?}", row.len())
 }
 
-/// A row of good records.
-fn good_row(count: usize, random: &mut Random) -> Vec<u8> {
+/// Good records, each of either kind.
+fn good_records(count: usize, random: &mut Random) -> Vec<Vec<u8>> {
     (0..count)
-        .flat_map(|_| codec::laid_out(&good(random)))
+        .map(|_| either_record(&good(random), random))
         .collect()
 }
 
-/// Rows of up to four records, cut to every length: all good, and with the kind or the number of
-/// one of them changed.
+/// The same in a row.
+fn good_row(count: usize, random: &mut Random) -> Vec<u8> {
+    good_records(count, random).concat()
+}
+
+/// Rows of up to four records of both kinds, cut to every length: all good, and with the kind or the
+/// number of one of them changed.
 fn cut_rows(random: &mut Random) -> u64 {
     let mut tallies = Tallies::new("0 to 4 records, cut to every length");
     for count in 0..=4 {
         for bad in 0..=count {
-            for (field, value) in [(4, 2), (6, 7), (6, 8)] {
-                let mut bytes = good_row(count, random);
-                if bad < count {
-                    bytes[bad * RECORD_SIZE + field] = value;
+            for (field, value) in [(4, 1), (4, 2), (4, 3), (6, 7), (6, 8)] {
+                let mut records = good_records(count, random);
+                if let Some(record) = records.get_mut(bad) {
+                    record[field] = value;
                 }
+                let bytes = records.concat();
                 for length in 0..=bytes.len() {
                     tallies.compare(&bytes, length);
                 }
@@ -145,12 +155,13 @@ fn some_row(random: &mut Random) -> Vec<u8> {
 /// A record that is cut, of another kind or length, with a changed field, or damaged otherwise.
 fn bad_record(random: &mut Random) -> Vec<u8> {
     let answer = good(random);
-    let mut record = codec::laid_out(&answer);
+    let mut record = either_record(&answer, random);
+    let (length, kind) = (record.len() as u32 - 4, u64::from(record[4]));
     match random.below(5) {
-        0 => record.truncate(random.index(RECORD_SIZE)),
-        1 => record = relabelled(record, 57, random.one_of(&KINDS)),
-        2 => record = relabelled(record, random.one_of(&LENGTHS), codec::KIND),
-        3 => record = codec::laid_out(&disturbed(&answer, random)),
+        0 => record.truncate(random.index(record.len())),
+        1 => record = relabelled(record, length, random.one_of(&ASKED)),
+        2 => record = relabelled(record, random.one_of(&LENGTHS), kind),
+        3 => record = either_record(&disturbed(&answer, random), random),
         _ => record = some_record(&answer, random),
     }
     record

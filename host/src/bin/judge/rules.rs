@@ -1,160 +1,125 @@
-//! The level rules as they are written down, with no table in sight, beside the Rust built with a
-//! small cap: what the definitions say of a full level is what the Rust does.
+//! The rules as they are written down beside the Rust, whose levels are built with small caps too,
+//! beside the tables that long captures are raced with, and beside the library.
 
-use crate::captures::described;
+use crate::captures::{described, repeated, stretches};
+use crate::race::Outcome;
 use crate::tally::{Clock, Tally};
-use abutfern::numbers::LEVELS;
+use crate::{history, levels, tracks, windows};
+use abutfern::numbers::{COUNTERS, MMC_SAMPLES, PAIR_CAP, SPACE};
 use abutfern::random::Random;
-use abutfern::reference;
+use abutfern::reference::prediction::PredictionEstimate;
 use abutfern::shapes::{SHAPES, capture};
+use abutfern::{exported, reference};
 
 /// Judges the rules; returns how many differ.
 pub fn judge(clock: Clock, random: &mut Random) -> u64 {
+    window_rules(clock.part(4), random) + level_rules(clock, random)
+}
+
+/// The races that must come to the same as the rules.
+type Others = Vec<(&'static str, Outcome)>;
+
+/// The faults of what the rules come to: the Rust's counts, and everything of the other races.
+fn faults(rules: &Outcome, rust: &PredictionEstimate, others: &Others) -> Vec<String> {
+    let counts = (rust.c, rust.n, rust.max_run_len);
+    let mut faults = Vec::new();
+    if rules.counts() != counts {
+        faults.push(format!("{rules:?}, the Rust {counts:?}"));
+    }
+    for (name, other) in others {
+        if other != rules {
+            faults.push(format!("{rules:?}, {name} {other:?}"));
+        }
+    }
+    faults
+}
+
+fn some_capture(length: usize, values: usize, random: &mut Random) -> Vec<u8> {
+    match random.below(4) {
+        0 if values <= 2 => stretches(length, random),
+        0 | 1 => repeated(length, values, random),
+        _ => capture(random.one_of(&SHAPES), values, length, || {
+            random.word() >> 40
+        }),
+    }
+}
+
+fn window_rules(clock: Clock, random: &mut Random) -> u64 {
+    let mut tally = Tally::new("window rules: 4,096 to 4,400 samples");
+    for () in clock.turns() {
+        let values = random.one_of(&[1, 2, 2, 3, 4, 16, 256]);
+        let symbols = some_capture(4096 + random.index(305), values, random);
+        let rules = history::windows(&symbols);
+        let rust = reference::multi_mcw::multi_mcw_literal(&symbols).estimate;
+        let mut others = vec![("the counts", windows::race(&symbols).end())];
+        if exported("multi_mcw_literal") {
+            let answer = abutfern::multi_mcw_literal(&symbols, &mut symbols.clone());
+            others.push(("the library on literals", Outcome::of(&answer)));
+        }
+        if exported("multi_mcw") && values <= 2 {
+            let answer = abutfern::multi_mcw(&symbols, 1);
+            others.push(("the library on bits", Outcome::of(&answer)));
+        }
+        tally.judge(faults(&rules, &rust, &others), || described(&symbols));
+    }
+    tally.close()
+}
+
+fn level_rules(clock: Clock, random: &mut Random) -> u64 {
     let mut bits = Tally::new("level rules on bits: caps 1 to 20 and 100,000");
     let mut general = Tally::new("general level rules: caps 1 to 20 and 100,000");
+    let mut space = vec![0; SPACE];
     for () in clock.turns() {
         let most = random.one_of(&[20, 60, 150]);
         let values = random.one_of(&[1, 2, 2, 3, 3, 4, 8]);
-        let length = 4 + random.index(most);
-        let shape = random.one_of(&SHAPES);
-        let symbols = capture(shape, values, length, || random.word() >> 40);
+        let mut symbols = some_capture(4 + random.index(most), values, random);
+        if random.chance(1, 2) {
+            symbols.truncate(a_turn(&symbols, random));
+        }
         let (data, size) = reference::value_sorted(&symbols);
         for (cap, rust) in reference::CAPPED {
-            let estimate = rust(&symbols);
-            let expected = (estimate.c, estimate.max_run_len);
-            if size <= 2 {
-                let found = race(&data, on_bits(&data, *cap));
-                bits.check(found == expected, || {
-                    format!(
-                        "cap {cap}, {}: {found:?}, not {expected:?}",
-                        described(&data)
-                    )
-                });
+            let rust = rust(&symbols);
+            let (rules, tables, tally) = if size <= 2 {
+                let rules = history::on_bits(&data, *cap);
+                (rules, levels::on_bits(&data, *cap).end(), &mut bits)
+            } else {
+                let rules = history::in_general(&data, *cap);
+                (rules, levels::in_general(&data, *cap).end(), &mut general)
+            };
+            let mut others = vec![("the tables", tables)];
+            if *cap == PAIR_CAP {
+                others.extend(library_levels(&data, size, &mut space));
             }
-            let found = race(&data, in_general(&data, *cap));
-            if size > 2 {
-                general.check(found == expected, || {
-                    format!(
-                        "cap {cap}, {}: {found:?}, not {expected:?}",
-                        described(&data)
-                    )
-                });
-            }
+            tally.judge(faults(&rules, &rust, &others), || {
+                format!("cap {cap}, {}", described(&data))
+            });
         }
     }
     bits.close() + general.close()
 }
 
-/// What each level says at each place: a symbol, or nothing.
-type Said = Vec<[Option<u8>; LEVELS]>;
-
-/// C and the longest run: the winner at a place's start decides, then the levels are scored.
-fn race(data: &[u8], said: Said) -> (u64, u64) {
-    let mut scores = [0u64; LEVELS];
-    let (mut winner, mut c, mut run, mut longest) = (0, 0, 0, 0);
-    for place in 2..data.len() {
-        match said[place][winner] {
-            Some(symbol) if symbol == data[place] => {
-                c += 1;
-                run += 1;
-                longest = longest.max(run);
-            }
-            Some(_) => run = 0,
-            None => {}
-        }
-        for level in 0..LEVELS {
-            if said[place][level] == Some(data[place]) {
-                scores[level] += 1;
-                if scores[level] >= scores[winner] {
-                    winner = level;
-                }
-            }
-        }
+/// A length at which another level has just taken the lead, or the whole.
+fn a_turn(symbols: &[u8], random: &mut Random) -> usize {
+    let turns = tracks::mmc_race(symbols).turns;
+    let lengths = turns.iter().map(|n| *n as usize + 2);
+    let enough: Vec<usize> = lengths.filter(|length| *length >= MMC_SAMPLES).collect();
+    if enough.is_empty() {
+        return symbols.len();
     }
-    (c, longest)
+    random.one_of(&enough)
 }
 
-/// Whether two places have the same `level` symbols before them.
-fn same_context(data: &[u8], level: usize, a: usize, b: usize) -> bool {
-    data[a - level..a] == data[b - level..b]
-}
-
-/// Bits: a pair's counter is the number of places before where the bit followed the context, if
-/// the pair is among the first `cap` distinct ones by place. A level with no count is silent, and
-/// so are longer ones; 0 is said only if its counter is larger.
-fn on_bits(data: &[u8], cap: usize) -> Said {
-    let mut said = vec![[None; LEVELS]; data.len()];
-    let counted: Vec<Vec<usize>> = (1..=LEVELS)
-        .map(|level| among_first(data, level, cap))
-        .collect();
-    for (place, said) in said.iter_mut().enumerate().skip(2) {
-        for level in 1..=LEVELS.min(place - 1) {
-            let count = |bit: u8| {
-                let before = counted[level - 1].iter().filter(|at| **at < place);
-                before
-                    .filter(|at| data[**at] == bit && same_context(data, level, **at, place))
-                    .count()
-            };
-            let (zeros, ones) = (count(0), count(1));
-            if zeros + ones == 0 {
-                break;
-            }
-            said[level - 1] = Some(u8::from(zeros <= ones));
-        }
+/// What the library's levels come to on translated samples, as literals and, of two values, as bits.
+fn library_levels(data: &[u8], size: usize, space: &mut [u32]) -> Others {
+    let mut found = Vec::new();
+    if exported("multi_mmc_literal") {
+        let lent = if size <= 2 { COUNTERS } else { SPACE };
+        let answer = abutfern::multi_mmc_literal(data, &mut data.to_vec(), &mut space[..lent]);
+        found.push(("the library on literals", Outcome::of(&answer)));
     }
-    said
-}
-
-/// The places of a level whose pair is among the first `cap` distinct pairs.
-fn among_first(data: &[u8], level: usize, cap: usize) -> Vec<usize> {
-    let mut places: Vec<usize> = Vec::new();
-    let mut pairs = 0;
-    for place in level..data.len() {
-        let seen = |at: &usize| data[*at] == data[place] && same_context(data, level, *at, place);
-        if places.iter().any(seen) {
-            places.push(place);
-        } else if pairs < cap {
-            pairs += 1;
-            places.push(place);
-        }
+    if exported("multi_mmc") && size <= 2 {
+        let answer = abutfern::multi_mmc(data, 1, &mut space[..COUNTERS]);
+        found.push(("the library on bits", Outcome::of(&answer)));
     }
-    places
-}
-
-/// General: each level has the places counted there and the number of entries made.
-fn in_general(data: &[u8], cap: usize) -> Said {
-    let mut said = vec![[None; LEVELS]; data.len()];
-    let mut levels = vec![(Vec::new(), 0); LEVELS];
-    for place in 1..data.len() {
-        let mut found = true;
-        for level in 1..=LEVELS.min(place) {
-            let (counted, entries) = &mut levels[level - 1];
-            if place == level {
-                counted.push(place);
-                *entries = 1;
-                continue;
-            }
-            let same = |at: &&usize| same_context(data, level, **at, place);
-            let history: Vec<u8> = counted.iter().filter(same).map(|at| data[*at]).collect();
-            found &= !history.is_empty();
-            if found {
-                said[place][level - 1] = commonest(&history);
-            }
-            let known = found && history.contains(&data[place]);
-            if known || *entries < cap {
-                counted.push(place);
-                *entries += usize::from(!known);
-            }
-        }
-    }
-    said
-}
-
-/// The symbol of largest count, ties to the larger.
-fn commonest(symbols: &[u8]) -> Option<u8> {
-    let count = |symbol: u8| symbols.iter().filter(|other| **other == symbol).count();
-    symbols
-        .iter()
-        .copied()
-        .max_by_key(|symbol| (count(*symbol), *symbol))
+    found
 }

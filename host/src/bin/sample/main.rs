@@ -44,6 +44,7 @@
 //!
 //! The answer is nine words: number (0, or 6 where the Rust did not run), C, N, longest run, k,
 //! p_global (same bits), p_global', p_local, min-entropy. A number of 6 has zeros and four -1.0.
+//! Who predicted is not in the list, since the Rust does not say it.
 //!
 //! A capture by rule has `length` symbols. The state starts as the seed; each draw makes it
 //! state * 48,271 modulo 2,147,483,647 and gives it divided by 128 (whole part). Each place draws

@@ -14,7 +14,7 @@ use Rattle.race.specs.inner.Held.{counterLimit, heardFrom}
 use Rattle.mcw_bits.specs.inner.Ones.{AllOnes, Ring, majoritiesOf}
 use Rattle.mcw_bits.specs.inner.Say.{sayings}
 use Rattle.mcw_bits.specs.declared.Four.{Four}
-use Rattle.mcw_bits.proofs.Place.{same-verdict, RacedAt, mcw-starts, mcw-winner, mcw-scores, mcw-countable, mcw-leadable, mcw-step, mcw-counts}
+use Rattle.mcw_bits.proofs.Place.{same-verdict, RacedAt, mcw-starts, mcw-winner, mcw-scores, mcw-countable, mcw-leadable, mcw-step, mcw-outcome}
 use Rattle.mcw_bits.proofs.Ones.{ring-start, ring-next, ones-start, ones-small, bits-symbols, votes-heard, all-roll, all-rolled}
 use Rattle.mcw_bits.proofs.Samples.{source-bits, spot-asks, spot-has, next-asks, spot-goes}
 use Rattle.mcw_bits.proofs.run.mcw_bits.Statement.{statement}
@@ -160,10 +160,17 @@ loop-again c =
       ap length (saying v),
     )
 
+slice-aggregate-ended : tie.Need-slice-aggregate-ended Inv-loop μ-loop
+slice-aggregate-ended c = sym (mcw-scores (c .before .before .loop .inv .4))
+
+ended-requires : tie.Need-ended-requires Inv-loop μ-loop
+ended-requires c κs = let R = c .before .before .loop .inv .4 in omega (arith, mcw-winner R, mcw-scores R)
+
 returns : tie.Need-returns Inv-loop μ-loop
 returns c =
-    let a = start (c .before) .args in
-    mcw-counts (c .before .loop .inv .4) (omega (arith, bits-length (now (a .symbols)) (a .width) (a .n)))
+    let h = c .before .before .before in
+    let a = start h .args in
+    c .ended .ensures ∙ mcw-outcome (h .loop .inv .4) (omega (arith, bits-length (now (a .symbols)) (a .width) (a .n)))
 
 pub mcw-bits-spec : {M : Type 1} → statement M
 mcw-bits-spec =
@@ -190,4 +197,6 @@ mcw-bits-spec =
     add-i
     loop-less
     loop-again
+    slice-aggregate-ended
+    ended-requires
     returns)

@@ -1,12 +1,13 @@
 -- `run::mcw_symbols` meets its contract. Before place i the windows' counts, latest places and candidates are those of the samples before it, so each
 -- window tells its verdict on what comes; the standing and the counts are those of the race over the places before i. Assumes nothing.
 use Prim.Native.Nat.{_≤_, _<_, _-_}
+use mathlib.Core.Path.{sym, _∙_}
 use native.Mathlib.Omega.{arith}
 use denote.Ref.{now}
 use lib.ListN.{length}
 use Rattle.race.specs.inner.Held.{counterLimit}
 use Rattle.mcw_symbols.specs.inner.Kept.{Kept}
-use Rattle.mcw_bits.proofs.Place.{RacedAt, mcw-starts, mcw-winner, mcw-counts}
+use Rattle.mcw_bits.proofs.Place.{RacedAt, mcw-starts, mcw-winner, mcw-scores, mcw-outcome}
 use Rattle.mcw_symbols.proofs.Keeping.{kept-starts, askable}
 use Rattle.mcw_symbols.proofs.Scoring.{count-asks, score-asks, scored-next}
 use Rattle.mcw_symbols.proofs.Site.{Site, site-marks, site-told, leave-asks, enter-asks, advance-asks, gone-on}
@@ -132,8 +133,14 @@ loop-again c =
           (p .before .before .before .verdict-of .ensures) (p .before .before .count .ensures),
     )
 
+slice-aggregate-ended : tie.Need-slice-aggregate-ended Inv-loop μ-loop
+slice-aggregate-ended c = sym (mcw-scores (c .before .before .loop .inv .2))
+
+ended-requires : tie.Need-ended-requires Inv-loop μ-loop
+ended-requires c κs = let R = c .before .before .loop .inv .2 in omega (arith, mcw-winner R, mcw-scores R)
+
 returns : tie.Need-returns Inv-loop μ-loop
-returns c = mcw-counts (c .before .loop .inv .2) (omega arith)
+returns c = c .ended .ensures ∙ mcw-outcome (c .before .before .before .loop .inv .2) (omega arith)
 
 pub mcw-symbols-spec : {M : Type 1} → statement M
 mcw-symbols-spec =
@@ -157,4 +164,6 @@ mcw-symbols-spec =
     add-i
     loop-less
     loop-again
+    slice-aggregate-ended
+    ended-requires
     returns)

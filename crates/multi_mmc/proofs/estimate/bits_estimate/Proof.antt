@@ -1,4 +1,4 @@
--- `estimate::bits_estimate` meets its contract: the estimate is that of the race over the bits. Assumes nothing.
+-- `estimate::bits_estimate` meets its contract: the answer is that of the race over the bits. Assumes nothing.
 use borrow.Author.Needs.{needs}
 use denote.Ref.{now}
 use Rattle.capture.specs.Bits.{bitsOf}
@@ -8,7 +8,7 @@ use Rattle.multi_mmc.proofs.estimate.bits_estimate.Statement.{statement
 use Rattle.multi_mmc.proofs.estimate.bits_estimate.Tie as tie
 
 -- where the race is over, and the entry
-abbrev raced : tie.After-prediction-estimate → tie.After-mmc-bits
+abbrev raced : tie.After-rate → tie.After-mmc-bits
 raced c = c .before .before .before
 
 abbrev start : tie.After-mmc-bits → tie.Start
@@ -19,7 +19,7 @@ returns c =
     let r = raced c in
     let a = start r .args in (
       bits-estimate-is (bitsOf (now (a .symbols)) (a .width) (a .n)) (bits-length (now (a .symbols)) (a .width) (a .n))
-          (r .mmc-bits .ensures .0) (c .prediction-estimate .ensures),
+          (r .mmc-bits .ensures .0) (c .rate .ensures),
       r .mmc-bits .ensures .1,
     )
 

@@ -1,0 +1,2 @@
+pub mod Rating
+pub mod Who
