@@ -132,14 +132,17 @@ pub fn answer_in(bytes: &[u8], kind: u64) -> Answer
     requires { ⌜ answerSize kind ≤ length (now bytes) ⌝ }
     ensures { λ r. ⌜ r ≡ answerIn kind (now (bytes .entry)) ⌝ }
 {
+    // Read before the others, so that no field is held on the stack over a branch.
+    let winner = told_at(bytes, kind, WINNER, 1);
+    let score = told_at(bytes, kind, SCORE, 4);
     let estimate = estimate_in(bytes);
     Answer {
         number: number_at(bytes, NUMBER, 1),
         place: number_at(bytes, PLACE, 4),
         k: number_at(bytes, K, 2),
         rounds: number_at(bytes, ROUNDS, 4),
-        winner: told_at(bytes, kind, WINNER, 1),
-        score: told_at(bytes, kind, SCORE, 4),
+        winner,
+        score,
         estimate,
     }
 }

@@ -15,7 +15,8 @@ use Rattle.envelope.proofs.Envelope.{framed-is, framed-long, record-length}
 use Rattle.fields.specs.Fields.{answerKind, answerRecord, answerSize, fieldsOf, isKind, namedKind}
 use Rattle.fields.proofs.Telling.{kind-is}
 use Rattle.recordable.specs.declared.Held.{Held}
-use Rattle.record.specs.Record.{answerHeld, framedAs, heldIn, holds, kindIn, notRead, readingOf, wasRead, writeNumber, writtenIn, writtenOf}
+use Rattle.record.specs.Record.{answerHeld, extentOf, framedAs, heldIn, holds, kindIn, notRead, readingOf, wasRead, writeNumber, writtenIn, writtenOf}
+use Rattle.record.specs.declared.Extent.{Extent}
 use Rattle.record.specs.declared.Reading.{Reading}
 
 -- how many bytes a record takes
@@ -71,6 +72,23 @@ no-size kind true true h e = absurd (e refl)
 no-size kind true false h e = refl
 no-size kind false r h e = refl
 
+is-refusal : (kind : ℕ) (f r : Bool) (h : Held) → (readBy kind f r h .number ≡ done → ⊥) → readBy kind f r h ≡ notRead (readBy kind f r h .number)
+is-refusal kind true true h e = absurd (e refl)
+is-refusal kind true false h e = refl
+is-refusal kind false r h e = refl
+
+-- all but what was read
+abbrev extent : ℕ → ℕ → Extent
+extent n s = record { number = n; size = s }
+
+abbrev pub extentBy : ℕ → Bool → Bool → Extent
+extentBy kind f r = cond f (cond r (extent done (answerSize kind)) (extent badAnswer 0)) (extent badFrame 0)
+
+extents : (kind : ℕ) (f r : Bool) (h : Held) → extent (readBy kind f r h .number) (readBy kind f r h .size) ≡ extentBy kind f r
+extents kind true true h = refl
+extents kind true false h = refl
+extents kind false r h = refl
+
 module _ (bytes : List ℕ) where
   pub by-tests : {kind : ℕ} {f r : Bool} {h : Held} → kindIn bytes ≡ kind → heldIn kind bytes ≡ h → isKind kind ≡ f → holds kind h ≡ r →
       readingOf bytes ≡ readBy kind f r h
@@ -100,6 +118,16 @@ module _ (bytes : List ℕ) where
 
   pub read-long : readingOf bytes .number ≡ done → answerSize (kindIn bytes) ≤ length bytes
   read-long h = kind-long bytes (reading-tests h .0)
+
+  pub extent-by : {kind : ℕ} {f r : Bool} → kindIn bytes ≡ kind → isKind kind ≡ f → holds kind (heldIn kind bytes) ≡ r →
+      extentOf bytes ≡ extentBy kind f r
+  extent-by {kind} {f} {r} is p q =
+      ap (λ (t : Reading). extent (t .number) (t .size)) (by-tests is refl p q) ∙ extents kind f r (heldIn kind bytes)
+
+  pub refused-is : {n : ℕ} → n ≡ readingOf bytes .number → (n ≡ done → ⊥) → readingOf bytes ≡ notRead n
+  unfolding readingOf
+  refused-is {n} e h =
+      is-refusal (kindIn bytes) (isKind (kindIn bytes)) (holds (kindIn bytes) held) held (λ d. h (e ∙ d)) ∙ ap notRead (sym e)
 
   pub refused-size : (readingOf bytes .number ≡ done → ⊥) → readingOf bytes .size ≡ 0
   unfolding readingOf

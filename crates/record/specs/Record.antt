@@ -10,7 +10,7 @@ use Rattle.answer.specs.Refused.{refused}
 use Rattle.answer.specs.declared.Answer.{Answer}
 use Rattle.envelope.specs.Envelope.{following, framed, putAtStart}
 use Rattle.fields.specs.Fields.{answerIn, answerKind, answerRecord, answerSize, fieldsOf, isKind, namedKind, tells}
-use Rattle.recordable.specs.Recordable.{holdable}
+use Rattle.recordable.specs.Recordable.{heldAs, holdable}
 use Rattle.recordable.specs.declared.Held.{Held}
 use Rattle.recordable.specs.declared.Held.the-variants.{Unnamed, Named}
 use Rattle.record.specs.declared.Extent.{Extent}
@@ -52,7 +52,7 @@ kindIn bytes = cond (framedAs answerKind bytes) answerKind (cond (framedAs named
 
 -- what a record of a kind at the start holds: "a kind 1 result with both marked absent and not as 0"
 unfoldable pub heldIn : ℕ → List ℕ → Held
-heldIn kind bytes = cond (tells kind) (Named (answerIn kind bytes)) (Unnamed (answerIn kind bytes))
+heldIn kind bytes = heldAs (tells kind) (answerIn kind bytes)
 
 -- nothing was read: "every field of the answer as in a refusal", and who predicted is absent
 abbrev pub notRead : ℕ → Reading

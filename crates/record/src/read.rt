@@ -14,7 +14,7 @@ use fields::is_kind;
 use fields::size_of;
 use fields::tells_winner;
 use recordable::Held;
-use recordable::is_holdable;
+use recordable::is_readable;
 ghost use mathlib.Core.Path.{_≡_};
 ghost use Prim.Native.Nat.{_≤_};
 ghost use lib.ListN.{length};
@@ -58,32 +58,42 @@ fn not_read(number: u64) -> Reading
     }
 }
 
+// Whether the record at the start of the bytes can be read, and how many bytes it takes. Says 8, then 9.
+pub fn extent(bytes: &[u8]) -> Extent
+    ensures { λ r. ⌜ r ≡ extentOf (now (bytes .entry)) ⌝ }
+{
+    let kind = kind_in(bytes);
+    if !is_kind(kind) {
+        return Extent {
+            number: BAD_FRAME,
+            size: 0,
+        };
+    }
+    if is_readable(answer_in(bytes, kind), tells_winner(kind)) {
+        return Extent {
+            number: DONE,
+            size: size_of(kind),
+        };
+    }
+    Extent {
+        number: BAD_ANSWER,
+        size: 0,
+    }
+}
+
 // Reads the record at the start of the bytes, whatever follows it. Refuses with 8, then 9.
 pub fn read_record(bytes: &[u8]) -> Reading
     ensures { λ r. ⌜ r ≡ readingOf (now (bytes .entry)) ⌝ }
 {
+    let extent = extent(bytes);
+    let number = extent.number;
+    if number != DONE {
+        return not_read(number);
+    }
     let kind = kind_in(bytes);
-    if !is_kind(kind) {
-        return not_read(BAD_FRAME);
-    }
-    let held = held_in(bytes, kind);
-    if is_holdable(held, tells_winner(kind)) {
-        return Reading {
-            number: DONE,
-            size: size_of(kind),
-            held,
-        };
-    }
-    not_read(BAD_ANSWER)
-}
-
-// Whether the record at the start of the bytes can be read, and how long it is.
-pub fn extent(bytes: &[u8]) -> Extent
-    ensures { λ r. ⌜ r ≡ extentOf (now (bytes .entry)) ⌝ }
-{
-    let reading = read_record(bytes);
-    Extent {
-        number: reading.number,
-        size: reading.size,
+    Reading {
+        number,
+        size: extent.size,
+        held: held_in(bytes, kind),
     }
 }

@@ -65,3 +65,7 @@ won a =
 unfoldable pub holdable : Bool → Held → Bool
 holdable tells (Unnamed a) = not tells && recordable a
 holdable tells (Named a) = recordable a && won a
+
+-- what a record that tells who predicted, or one that does not, holds of an answer
+abbrev pub heldAs : Bool → Answer → Held
+heldAs tells a = cond tells (Named a) (Unnamed a)

@@ -11,7 +11,7 @@ ghost use mathlib.Core.Bool.{_&&_, _||_};
 ghost use lib.Ieee.{eq};
 ghost use Rattle.answer.specs.Refused.{minusOne};
 ghost use Rattle.rounding.specs.Doubles.{one};
-ghost use Rattle.recordable.specs.Recordable.{asRan, asRefused, blank, holdable, likelihoods, placed, recordable, within, won};
+ghost use Rattle.recordable.specs.Recordable.{asRan, asRefused, blank, heldAs, holdable, likelihoods, placed, recordable, within, won};
 
 // The windows or levels that can win are at most so many.
 const WINNER_LIMIT: u64 = 16;
@@ -169,6 +169,19 @@ fn is_won(a: Answer) -> bool
     false
 }
 
+// Whether a record may hold an answer that was read from it: who predicted is there just where the record tells it.
+pub fn is_readable(a: Answer, tells: bool) -> bool
+    ensures { λ r. ⌜ r ≡ holdable tells (heldAs tells a) ⌝ }
+{
+    if is_recordable(a) {
+        if tells {
+            return is_won(a);
+        }
+        return true;
+    }
+    false
+}
+
 // Whether a record that tells who predicted, or one that does not, may hold an answer; else it is number 9.
 pub fn is_holdable(held: Held, tells: bool) -> bool
     ensures { λ r. ⌜ r ≡ holdable tells held ⌝ }
@@ -178,13 +191,8 @@ pub fn is_holdable(held: Held, tells: bool) -> bool
             if tells {
                 return false;
             }
-            is_recordable(a)
+            is_readable(a, false)
         }
-        Held::Named(a) => {
-            if is_recordable(a) {
-                return is_won(a);
-            }
-            false
-        }
+        Held::Named(a) => is_readable(a, true),
     }
 }

@@ -19,51 +19,49 @@ longer : (s : tie.Start) → tells (s .args .kind) ≡ true → 66 ≤ length (s
 unfolding bodySize
 longer s e = omega (arith, s .pre, size-by (s .args .kind) e)
 
-estimate-in-requires : tie.Need-estimate-in-requires
-unfolding bodySize
-estimate-in-requires c κs = long (c .before)
-
-number-at-requires : tie.Need-number-at-requires
-number-at-requires c κs = (omega arith, omega (arith, long (c .before .before)))
-
-number-at-requires-2 : tie.Need-number-at-requires-2
-number-at-requires-2 c κs = (omega arith, omega (arith, long (c .before .before .before)))
-
-number-at-requires-3 : tie.Need-number-at-requires-3
-number-at-requires-3 c κs = (omega arith, omega (arith, long (c .before .before .before .before)))
-
-number-at-requires-4 : tie.Need-number-at-requires-4
-number-at-requires-4 c κs = (omega arith, omega (arith, long (c .before .before .before .before .before)))
-
 told-at-requires : tie.Need-told-at-requires
-told-at-requires c κs =
-    (omega arith, λ e. omega (arith, longer (c .before .before .before .before .before .before) e))
+told-at-requires c κs = (omega arith, λ e. omega (arith, longer (c .before) e))
 
 told-at-requires-2 : tie.Need-told-at-requires-2
-told-at-requires-2 c κs =
-    (omega arith, λ e. omega (arith, longer (c .before .before .before .before .before .before .before) e))
+told-at-requires-2 c κs = (omega arith, λ e. omega (arith, longer (c .before .before) e))
+
+estimate-in-requires : tie.Need-estimate-in-requires
+unfolding bodySize
+estimate-in-requires c κs = long (c .before .before .before)
+
+number-at-requires : tie.Need-number-at-requires
+number-at-requires c κs = (omega arith, omega (arith, long (c .before .before .before .before)))
+
+number-at-requires-2 : tie.Need-number-at-requires-2
+number-at-requires-2 c κs = (omega arith, omega (arith, long (c .before .before .before .before .before)))
+
+number-at-requires-3 : tie.Need-number-at-requires-3
+number-at-requires-3 c κs = (omega arith, omega (arith, long (c .before .before .before .before .before .before)))
+
+number-at-requires-4 : tie.Need-number-at-requires-4
+number-at-requires-4 c κs = (omega arith, omega (arith, long (c .before .before .before .before .before .before .before)))
 
 returns : tie.Need-returns
 unfolding valuesAt
 returns c =
-    let winner = c .before in
-    let rounds = winner .before in
-    let k = rounds .before in
+    let k = c .before in
     let place = k .before in
     let number = place .before in
-    let a = number .before .before .before .args in
+    let score = number .before .before in
+    let winner = score .before in
+    let a = winner .before .before .args in
     rw (
+      winner .told-at .ensures,
+      score .told-at2 .ensures,
       number .before .estimate-in .ensures,
       number .number-at .ensures,
       place .number-at2 .ensures,
       k .number-at3 .ensures,
-      rounds .number-at4 .ensures,
-      winner .told-at .ensures,
-      c .told-at2 .ensures,
+      c .number-at4 .ensures,
     ) (answer-by (a .bytes .now) (a .kind))
 
 pub answer-in-spec : {M : Type 1} → statement M
 answer-in-spec =
     tie.close
-    (tie.spec estimate-in-requires number-at-requires number-at-requires-2 number-at-requires-3 number-at-requires-4 told-at-requires
-    told-at-requires-2 returns)
+    (tie.spec told-at-requires told-at-requires-2 estimate-in-requires number-at-requires number-at-requires-2 number-at-requires-3
+    number-at-requires-4 returns)
