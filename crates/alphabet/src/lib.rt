@@ -1,5 +1,7 @@
 // The alphabets of a capture: its values numbered from 0, by first sight (crate dense, for MultiMCW) or in rising order
 // (crate rising, for MultiMMC). Here is what both translators share.
+#![tactic(auto)]
+
 ghost use Rattle.std.specs.Prelude.{◌≡◌, ◌<◌, length};
 ghost use Rattle.alphabet.specs.Alphabet.{alphabet_number};
 ghost use Rattle.alphabet.specs.Inner.Numbering.{SymbolAt};
@@ -9,7 +11,7 @@ use capture::bits::{SYMBOL_LIMIT, wide};
 
 // What a translator returns: the number of distinct values.
 #[repr(C)]
-#[derive(Drop)]
+#[derive(Clone, Copy)]
 pub struct Alphabet {
     pub number: u64,
     pub size: u64,

@@ -1,4 +1,6 @@
 // What every estimator returns: an answer number and, where it ran, the estimate.
+#![tactic(auto)]
+
 ghost use Rattle.std.specs.Prelude.{◌≡◌};
 ghost use Rattle.answer.specs.Numbers.{given};
 ghost use Rattle.answer.specs.Predicted.{predicted_by};
@@ -29,7 +31,7 @@ pub const BAD_STATE: u64 = 10;
 
 // The shared estimate: C, N, the longest run, p_global, p_global', p_local and the min-entropy in bits per sample.
 #[repr(C)]
-#[derive(Drop)]
+#[derive(Clone, Copy)]
 pub struct Estimate {
     pub c: u64,
     pub n: u64,
@@ -43,7 +45,7 @@ pub struct Estimate {
 // An estimator's answer. `place` is that of number 3, `k` the alphabet's size, `rounds` the bisection rounds begun, `winner` the sub-predictor
 // that won, from 1, with `score` right predictions; 0 where there is none.
 #[repr(C)]
-#[derive(Drop)]
+#[derive(Clone, Copy)]
 pub struct Answer {
     pub number: u64,
     pub place: u64,
@@ -56,7 +58,7 @@ pub struct Answer {
 
 // One float, or a refusal.
 #[repr(C)]
-#[derive(Drop)]
+#[derive(Clone, Copy)]
 pub struct Value {
     pub number: u64,
     pub value: f64,
@@ -64,7 +66,7 @@ pub struct Value {
 
 // A float found by bisection, with the rounds begun, or a refusal.
 #[repr(C)]
-#[derive(Drop)]
+#[derive(Clone, Copy)]
 pub struct Solved {
     pub number: u64,
     pub rounds: u64,

@@ -1,4 +1,6 @@
 // The bisection for p_local (Rust: calc_p_local).
+#![tactic(auto)]
+
 ghost use Rattle.std.specs.Prelude.{◌≡◌, ◌≤◌};
 ghost use Rattle.bisect.specs.Bisection.{advanced, checked, halved, local_of, log_alpha, midpoint, narrowed, opening, reached, solved_from, turned};
 ghost use Rattle.counts.specs.Counts.{count_limit};
@@ -11,7 +13,7 @@ use function::value_at;
 pub const ROUND_LIMIT: u64 = 1076;
 
 // The bounds of the bisection with the values found there, the p between them and the value there.
-#[derive(Drop)]
+#[derive(Clone, Copy)]
 pub struct Bracket {
     pub lbound: f64,
     pub hbound: f64,
@@ -22,7 +24,7 @@ pub struct Bracket {
 }
 
 // What a round of the bisection comes to: the solution, or narrower bounds.
-#[derive(Drop)]
+#[derive(Clone, Copy)]
 pub enum Turn {
     Stop(f64),
     On(Bracket),

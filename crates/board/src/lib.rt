@@ -1,4 +1,6 @@
 // The board figure: the smallest min-entropy per symbol of the four estimates, and none unless all four ran.
+#![tactic(auto)]
+
 ghost use Rattle.std.specs.Prelude.{◌≡◌, ◌&&◌};
 ghost use Rattle.board.specs.Board.{all_in_range, all_ran, entry, figure_number, figure_of, first_of, in_range, per_symbol, ran, refusal, refusal_of, refused_figure, smaller, smallest};
 
@@ -7,7 +9,7 @@ use capture::bits::no_width;
 
 // The figure and the estimate that gave it: 1 MultiMCW bits, 2 MultiMCW literal, 3 MultiMMC bits, 4 MultiMMC literal.
 #[repr(C)]
-#[derive(Drop)]
+#[derive(Clone, Copy)]
 pub struct Figure {
     pub number: u64,
     pub which: u64,

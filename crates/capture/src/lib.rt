@@ -1,10 +1,12 @@
 // Captures: symbols one to a byte, and what their bits are.
+#![tactic(auto)]
+
 pub mod bits;
 pub mod refusal;
 
 // What the bit reader returns. `place` is that of number 3.
 #[repr(C)]
-#[derive(Drop)]
+#[derive(Clone, Copy)]
 pub struct BitRead {
     pub number: u64,
     pub place: u64,
@@ -12,7 +14,7 @@ pub struct BitRead {
 }
 
 // Where a bit stands: its byte, and how many of the bits taken of that byte come after it.
-#[derive(Drop)]
+#[derive(Clone, Copy)]
 pub struct Spot {
     pub at: usize,
     pub after: u32,

@@ -1,4 +1,6 @@
 // When two doubles are close (Rust: prediction.rs, `rel_epsilon_equal`), and the questions on one double that it asks.
+#![tactic(auto)]
+
 ghost use Rattle.std.specs.Prelude.{◌≡◌, not, T};
 ghost use Rattle.std.specs.Float.Ieee.{is_nan};
 ghost use Rattle.closeness.specs.Magnitude as Magnitude;

@@ -1,4 +1,6 @@
 // Which counts and probabilities an estimate refuses.
+#![tactic(auto)]
+
 ghost use Rattle.std.specs.Prelude.{◌≡◌, ◌&&◌, ◌||◌, eqb, ltb};
 ghost use Rattle.counts.specs.Counts.{count_limit, impossible_counts, impossible_run, outside};
 

@@ -1,4 +1,6 @@
 // The cutoffs of the repetition count test of SP 800-90B 4.4.1, for a false alarm probability of 2^-20.
+#![tactic(auto)]
+
 ghost use Rattle.std.specs.Prelude.{◌≡◌, true, ◌≤◌};
 ghost use Rattle.cutoff.specs.Cutoff.{Entry, cutoff_of, entry_of, in_range, rounded_up};
 
@@ -15,7 +17,7 @@ const SPREAD: usize = 1280;
 
 // The cutoff for an entropy, or a refusal.
 #[repr(C)]
-#[derive(Drop)]
+#[derive(Clone, Copy)]
 pub struct Cutoff {
     pub number: u64,
     pub cutoff: u64,

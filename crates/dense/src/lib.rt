@@ -1,4 +1,6 @@
 // The translator by first sight, for MultiMCW: a capture's values are numbered from 0 as they are first seen.
+#![tactic(auto)]
+
 ghost use Rattle.std.specs.Prelude.{◌≡◌, ◌<◌, ◌≤◌, length};
 ghost use Rattle.alphabet.specs.Alphabet.{alphabet_of, dense, distinct, output_of, written};
 ghost use Rattle.dense.specs.Inner.Sight.{entered, next_after};

@@ -1,12 +1,14 @@
 // The min-entropy -log2 p of a probability p from 1/256 to 1, in whole units of 2 ^ -24 bit, by arithmetic on `f64`
 // alone: never above the exact value, at most three units below it, and exact where p is a power of two.
+#![tactic(auto)]
+
 ghost use Rattle.std.specs.Prelude.{◌≡◌};
 ghost use Rattle.entropy.specs.Entropy.{bits_of, entropy_units, leading, log_digits, whole_bits};
 ghost use Rattle.entropy.specs.MinEntropy.{min_entropy_of};
 
 use answer::{DONE, OUT_OF_RANGE, Value};
 
-#[derive(Drop)]
+#[derive(Clone, Copy)]
 struct Scaled {
     x: f64,
     j: u32,

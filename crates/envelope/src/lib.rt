@@ -1,4 +1,6 @@
 // The envelope of every record: a 4-byte length of what follows it, a 2-byte kind, all little-endian, then the body.
+#![tactic(auto)]
+
 ghost use Rattle.std.specs.Prelude.{◌≡◌, ◌++◌, ◌+◌, ◌≤◌, ◌<◌, length};
 ghost use Rattle.std.proofs.lemmas.List.Edits.{sets};
 ghost use Rattle.envelope.specs.Little.{little, number_at};

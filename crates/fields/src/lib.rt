@@ -1,4 +1,6 @@
 // A record of an answer, field by field, of either kind.
+#![tactic(auto)]
+
 ghost use Rattle.std.specs.Prelude.{◌≡◌, cond, true, ◌++◌, ◌+◌, ◌≤◌, drop, length, take};
 ghost use Rattle.std.specs.Float.{binary64};
 ghost use Rattle.std.specs.Float.Ieee.{of_bits, to_bits};

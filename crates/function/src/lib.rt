@@ -1,4 +1,6 @@
 // The function whose root p_local is (Rust: prediction_estimate_function).
+#![tactic(auto)]
+
 ghost use Rattle.std.specs.Prelude.{◌≡◌, ◌+◌, ◌≤◌, ◌<◌};
 ghost use Rattle.counts.specs.Counts.{count_limit};
 ghost use Rattle.function.specs.Function.{at_fixed_point, fixed_point, function_of, updated, value_at};

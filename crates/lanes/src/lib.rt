@@ -1,4 +1,6 @@
 // Four lanes of 16 bits in one word, worked on all at once: no lane carries into the next.
+#![tactic(auto)]
+
 pub mod choose;
 pub mod compare;
 pub mod part;

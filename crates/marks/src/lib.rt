@@ -1,4 +1,6 @@
 // Which values stand in a capture, how many there are, and how many are smaller than each: a table of 256 marks, then of their sums.
+#![tactic(auto)]
+
 ghost use Rattle.std.specs.Prelude.{◌≡◌, ℕ, ◌+◌, ◌<◌, ◌≤◌, get_or, length, replicate, set, take};
 ghost use Rattle.alphabet.specs.Alphabet.{distinct};
 ghost use Rattle.alphabet.specs.Inner.Numbering.{Holds};

@@ -1,4 +1,6 @@
 // MultiMCW on bits (SP 800-90B 6.3.7): four windows, each of which says the commonest of its samples, race.
+#![tactic(auto)]
+
 pub mod run;
 pub mod say;
 mod windows;
@@ -13,7 +15,7 @@ pub const THIRD: usize = 1023;
 pub const FOURTH: usize = 4095;
 
 // One number for each window.
-#[derive(Drop)]
+#[derive(Clone, Copy)]
 pub struct Four {
     pub first: usize,
     pub second: usize,

@@ -1,4 +1,6 @@
 // The MultiMCW report: standard input as a literal capture, which has no width, and one line of what it comes to.
+#![tactic(auto)]
+
 ghost use Rattle.std.specs.Prelude.{◌≡◌, length};
 ghost use Rattle.mcw_report.specs.Report.{report_of, report_output};
 

@@ -8,7 +8,7 @@ use crate::search::search;
 use lanes::compare::{at_least, same};
 
 // The candidates, a mark where the candidate is the symbol, and a mark where the window says it.
-#[derive(Drop)]
+#[derive(Clone, Copy)]
 pub struct Heard {
     pub candidates: Candidates,
     pub alike: u64,

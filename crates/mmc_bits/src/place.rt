@@ -60,7 +60,7 @@ fn judged(zeros: u32, speaking: u32, bit: usize) -> Masks
 }
 
 // The verdicts on the levels at a place, and how many pairs of level 16 have counters after it.
-#[derive(Drop)]
+#[derive(Clone, Copy)]
 pub struct Placed {
     pub masks: Masks,
     pub stored: usize,

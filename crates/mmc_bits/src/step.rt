@@ -28,7 +28,7 @@ pub fn level_step(part: &mut [Counter], at: usize, bit: usize) -> u32
 }
 
 // What a look at two counters told, and how many pairs have counters.
-#[derive(Drop)]
+#[derive(Clone, Copy)]
 pub struct Capped {
     pub zero: u32,
     pub stored: usize,

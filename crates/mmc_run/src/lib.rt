@@ -1,4 +1,6 @@
 // MultiMMC on bits (SP 800-90B 6.3.9), the whole run: the sixteen levels race, place by place.
+#![tactic(auto)]
+
 ghost use Rattle.std.specs.Prelude.{◌≡◌, ◌++◌, length, drop, replicate, ◌-◌, ◌≤◌};
 ghost use Rattle.capture.specs.Inner.Spots.{Source};
 ghost use Rattle.capture.specs.Bits.{bits_of};

@@ -1,4 +1,6 @@
 // MultiMMC over a general alphabet (SP 800-90B 6.3.9), the whole run: the sixteen levels race, place by place.
+#![tactic(auto)]
+
 ghost use Rattle.std.specs.Prelude.{◌≡◌, ◌-◌, ◌≤◌, length};
 ghost use Rattle.capture.specs.Limit.{symbol_limit};
 ghost use Rattle.trace.specs.Inner.Noted.{Lends, noted};

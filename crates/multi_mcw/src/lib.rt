@@ -1,4 +1,6 @@
 // MultiMCW, SP 800-90B 6.3.7: four windows, each of which predicts the commonest of the samples in it (Rust: multi_mcw.rs).
+#![tactic(auto)]
+
 ghost use Rattle.std.specs.Prelude.{◌≡◌, ◌-◌, ◌≤◌, length};
 ghost use Rattle.capture.specs.Limit.{symbol_limit};
 ghost use Rattle.answer.specs.Numbers.{done};

@@ -1,5 +1,7 @@
 // MultiMMC, SP 800-90B 6.3.9: sixteen Markov models with counting, each of which predicts what most often followed its context
 // (Rust: multi_mmc.rs).
+#![tactic(auto)]
+
 ghost use Rattle.std.specs.Prelude.{◌≡◌, length};
 ghost use Rattle.answer.specs.Numbers.{done};
 ghost use Rattle.alphabet.specs.Alphabet.{sorted, written};

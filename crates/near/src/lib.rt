@@ -1,4 +1,6 @@
 // When the replay counts two doubles as the same.
+#![tactic(auto)]
+
 ghost use Rattle.std.specs.Prelude.{◌≡◌};
 ghost use Rattle.near.specs.Inner.Near.{few_units, special, within as Near·within, same as Near·same};
 

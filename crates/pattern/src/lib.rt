@@ -1,5 +1,7 @@
 // A double's pattern, that of a NaN too: every NaN is written as the one with the sign clear and only the highest digit
 // set, and every NaN pattern is read as a NaN.
+#![tactic(auto)]
+
 ghost use Rattle.std.specs.Prelude.{◌≡◌};
 ghost use Rattle.std.specs.Float.{binary64};
 ghost use Rattle.std.specs.Float.Ieee.{of_bits, to_bits};

@@ -1,4 +1,6 @@
 // A whole power of a double. "Whole-number powers come from halving the exponent."
+#![tactic(auto)]
+
 ghost use Rattle.std.specs.Prelude.{◌≡◌};
 ghost use Rattle.power.specs.Power.{power_of, times_power};
 

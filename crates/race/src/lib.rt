@@ -1,4 +1,6 @@
 // Sub-predictors compete: the winner, the scores, the hits and the longest run. MultiMCW runs it with four windows, MultiMMC with sixteen levels.
+#![tactic(auto)]
+
 ghost use Rattle.std.specs.Prelude.{◌≡◌, ◌<◌, length};
 ghost use Rattle.race.specs.Race.{judge};
 ghost use Rattle.race.specs.Inner.Held.{Countable, Leadable, Led, after, ended, heard, settled, tallied, verdicts_on};
@@ -7,7 +9,7 @@ ghost use Rattle.race.specs.Inner.Held.{Countable, Leadable, Led, after, ended, 
 pub const SILENT: u16 = 256;
 
 // C so far, the hits since the last miss, and the longest run.
-#[derive(Drop)]
+#[derive(Clone, Copy)]
 pub struct Tally {
     pub hits: u64,
     pub run: u64,
@@ -35,7 +37,7 @@ pub fn count(t: Tally, guess: u16, x: u16) -> Tally
 }
 
 // Who wins, and what a right guess has to reach: the winner's score, and 1 at least.
-#[derive(Drop)]
+#[derive(Clone, Copy)]
 pub struct Leader {
     pub winner: usize,
     pub bar: u64,
@@ -69,7 +71,7 @@ pub fn lead(scores: &mut [u64], guesses: &[u16], leader: Leader, x: u16) -> Lead
 }
 
 // How a race ends: C, the longest run, the winner counted from 1, and its score.
-#[derive(Drop)]
+#[derive(Clone, Copy)]
 pub struct Outcome {
     pub hits: u64,
     pub longest: u64,

@@ -1,4 +1,6 @@
 // The answer from a race: the estimate from its counts, and who predicted.
+#![tactic(auto)]
+
 ghost use Rattle.std.specs.Prelude.{◌≡◌};
 ghost use Rattle.rating.specs.Rating.{rating_of};
 

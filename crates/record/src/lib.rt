@@ -1,4 +1,6 @@
 // An estimator's answer as a record: the writer and the reader.
+#![tactic(auto)]
+
 pub mod flag;
 pub mod read;
 pub mod write;
@@ -8,14 +10,14 @@ use recordable::Held;
 
 // What a writer says: the answer number, and how many bytes the record takes, 0 where it is refused.
 #[repr(C)]
-#[derive(Drop)]
+#[derive(Clone, Copy)]
 pub struct Written {
     pub number: u64,
     pub size: u64,
 }
 
 // Whether a record can be read, by its answer number, and how many bytes it takes, 0 where it cannot.
-#[derive(Drop)]
+#[derive(Clone, Copy)]
 pub struct Extent {
     pub number: u64,
     pub size: u64,
@@ -23,7 +25,7 @@ pub struct Extent {
 
 // What a reader says: the answer number, how many bytes the record takes, and what it holds; 0 and a refusal of that number
 // where it is refused.
-#[derive(Drop)]
+#[derive(Clone, Copy)]
 pub struct Reading {
     pub number: u64,
     pub size: u64,
@@ -32,7 +34,7 @@ pub struct Reading {
 
 // The same with a flag beside the answer: 1 where the record tells who predicted, 0 where that is absent.
 #[repr(C)]
-#[derive(Drop)]
+#[derive(Clone, Copy)]
 pub struct Flagged {
     pub number: u64,
     pub size: u64,

@@ -1,4 +1,6 @@
 // Which answers a record may hold.
+#![tactic(auto)]
+
 ghost use Rattle.std.specs.Prelude.{◌≡◌, ◌&&◌, ◌||◌};
 ghost use Rattle.std.specs.Float.Ieee.{eq};
 ghost use Rattle.answer.specs.Refused.{minus_one};
@@ -14,7 +16,7 @@ use counts::impossible_counts;
 pub const WINNER_LIMIT: u64 = 16;
 
 // An answer as a record holds it. In `Unnamed` who predicted is absent: its winner and score say nothing.
-#[derive(Drop)]
+#[derive(Clone, Copy)]
 pub enum Held {
     Unnamed(Answer),
     Named(Answer),

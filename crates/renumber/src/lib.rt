@@ -1,4 +1,6 @@
 // A capture translated by a table of its values' numbers in rising order: four symbols are looked up at a time.
+#![tactic(auto)]
+
 ghost use Rattle.std.specs.Prelude.{◌≡◌, ◌+◌, ◌<◌, ◌≤◌, get_or, length};
 ghost use Rattle.alphabet.specs.Alphabet.{rising, sorted, written};
 ghost use Rattle.alphabet.specs.Inner.Numbering.{Holds, partly};
@@ -7,7 +9,7 @@ ghost use Rattle.renumber.specs.Inner.Fours.{FourAt, with_four};
 use alphabet::symbol;
 
 // The numbers of four symbols.
-#[derive(Drop)]
+#[derive(Clone, Copy)]
 struct Four {
     a: u8,
     b: u8,

@@ -9,7 +9,7 @@ use cutoff::{cutoff_for, is_cutoff};
 
 // The running test's state, lent by the host; all 0 where it was never started.
 #[repr(C)]
-#[derive(Drop)]
+#[derive(Clone, Copy)]
 pub struct RepetitionTest {
     pub cutoff: u16,
     pub last_sample: u16,
@@ -18,19 +18,19 @@ pub struct RepetitionTest {
 
 // Whether the alarm stands, or a refusal.
 #[repr(C)]
-#[derive(Drop)]
+#[derive(Clone, Copy)]
 pub struct Alarm {
     pub number: u64,
     pub alarm: u64,
 }
 
-#[derive(Drop)]
+#[derive(Clone, Copy)]
 pub struct Begun {
     pub number: u64,
     pub state: RepetitionTest,
 }
 
-#[derive(Drop)]
+#[derive(Clone, Copy)]
 pub struct Heard {
     pub alarm: Alarm,
     pub state: RepetitionTest,

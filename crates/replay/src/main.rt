@@ -1,5 +1,7 @@
 // Replays a fixed list of the Rust's answers, data/answers.bin, and prints for each kind of case how many were compared
 // and how many differ. The list's form stands in host/src/bin/sample/main.rs, which writes it.
+#![tactic(auto)]
+
 mod captures;
 mod cases;
 mod kinds;
@@ -8,7 +10,7 @@ mod numbers;
 mod read;
 
 // What a case comes to, and how long it is; a length of 0 says that the list ends within it.
-#[derive(Drop)]
+#[derive(Clone, Copy)]
 struct Outcome {
     kind: usize,
     verdict: u8,

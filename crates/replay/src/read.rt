@@ -5,7 +5,7 @@ use crate::numbers::{byte, four};
 
 // What the first 24 bytes say: the kind, the capture's shape, width, rule and length, the checks, and where the parts
 // that follow end: words, the capture if it is stored, expected bytes.
-#[derive(Drop)]
+#[derive(Clone, Copy)]
 pub struct Case {
     pub kind: usize,
     pub shape: u64,

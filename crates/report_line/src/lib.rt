@@ -1,5 +1,7 @@
 // The line of the report program: number, C, N, run, k, rounds, then the bits of p_global, p_global', p_local and
 // min-entropy in hex.
+#![tactic(auto)]
+
 ghost use Rattle.std.specs.Prelude.{◌≡◌, [], ◌∷◌, ◌++◌, ◌+◌, ◌≤◌, ◌<◌, length};
 ghost use Rattle.std.proofs.lemmas.List.Edits.{sets};
 ghost use Rattle.report_line.specs.Line.{counts_of, estimates_of, line_in, length_in};

@@ -1,4 +1,6 @@
 // The translator in rising order, for MultiMMC: each value's number is how many distinct values are smaller.
+#![tactic(auto)]
+
 ghost use Rattle.std.specs.Prelude.{◌≡◌, true, List, ℕ, ◌<◌, ◌≤◌, get_or, length};
 ghost use Rattle.alphabet.specs.Alphabet.{alphabet_of, distinct, output_of, rising, sorted, written};
 ghost use Rattle.alphabet.specs.Inner.Numbering.{Holds};

@@ -15,3 +15,4 @@
 //   Ranges         quotients, complements, reciprocals, products and sums in their ranges
 //   Midpoint       (a + b) / 2 lies from a to b
 //   Powers         powers of whole numbers, and Bernoulli's inequality
+#![tactic(auto)]

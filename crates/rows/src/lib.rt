@@ -1,4 +1,6 @@
 // Several records in a row.
+#![tactic(auto)]
+
 ghost use Rattle.std.specs.Prelude.{◌≡◌, ◌≤◌, length};
 ghost use Rattle.rows.specs.Rows.{record_at, row_of, start_of};
 
@@ -9,7 +11,7 @@ use record::read::{extent, read_record};
 // How many good records there are, the number of the first bad one (0 where none is bad), and the byte at which it starts
 // or the input ends. The first bad one is the record of place `good`, counted from 0.
 #[repr(C)]
-#[derive(Drop)]
+#[derive(Clone, Copy)]
 pub struct Row {
     pub good: u64,
     pub number: u64,

@@ -1,5 +1,7 @@
 // The square root of a double: "rounded correctly for every double (negative or not a number: not a number;
 // negative zero and infinity: itself). Subnormals are scaled by the position of the leading one of the fraction."
+#![tactic(auto)]
+
 ghost use Rattle.std.specs.Prelude.{◌≡◌, ◌+◌, ◌-◌, ◌*◌, ◌^◌, ◌≤◌, ◌<◌};
 ghost use Rattle.std.specs.Float.{binary64};
 ghost use Rattle.std.specs.Float.Ieee.{size};

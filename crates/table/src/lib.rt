@@ -1,5 +1,7 @@
 // A table of numbered entries in a lent slice, found by their keys. Entries have the numbers 1, 2, .. in the order in which they were made, and
 // 0 is none. The keys of one residue are a tree, in which the binary digits of the quotient lead the way: a walk meets at most 9 entries.
+#![tactic(auto)]
+
 ghost use Rattle.std.specs.Prelude.{◌≡◌, true, ◌<◌, ◌≤◌, length, get_or};
 ghost use Rattle.table.specs.Inner.Table.{Table, Sought, size, room, key_limit, value_at, entry_of, grown, valued};
 

@@ -1,4 +1,6 @@
 // The trace of a race: a record of each predicted place, one after the other.
+#![tactic(auto)]
+
 pub mod room;
 
 ghost use Rattle.std.specs.Prelude.{◌≡◌, ◌+◌, ◌-◌, ◌≤◌, ◌<◌, length};

@@ -42,7 +42,7 @@ pub fn start() -> Race
 }
 
 // The deficits and the winner after a place, and what the place added to the largest score.
-#[derive(Drop)]
+#[derive(Clone, Copy)]
 pub struct Onward {
     pub low: Low,
     pub far: u32,

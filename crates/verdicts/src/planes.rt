@@ -4,7 +4,7 @@ ghost use Rattle.verdicts.specs.Inner.Planes.{Chosen, Claims, LastDigit, Ripples
 use crate::Low;
 
 // The planes after c went through them, and what is left over.
-#[derive(Drop)]
+#[derive(Clone, Copy)]
 pub struct Rippled {
     pub low: Low,
     pub carry: u32,
@@ -32,7 +32,7 @@ pub fn ripple(q: Low, c: u32, x: u32) -> Rippled
 }
 
 // The right ones with no deficit, and those with a deficit of at most 1.
-#[derive(Drop)]
+#[derive(Clone, Copy)]
 pub struct Claimed {
     pub first: u32,
     pub near: u32,
@@ -49,7 +49,7 @@ pub fn claim(q: Low, far: u32, rights: u32) -> Claimed
 }
 
 // Who claims to win, what goes through the planes, where it is taken away and not added, and what the largest score gains.
-#[derive(Drop)]
+#[derive(Clone, Copy)]
 pub struct Choice {
     pub claim: u32,
     pub through: u32,

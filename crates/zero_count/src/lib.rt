@@ -1,5 +1,7 @@
 // The upper bound p_global' where no prediction was right: 1 - 0.01^(1/N), by arithmetic on `f64` alone. The root of
 // 0.01 is found to 52 binary digits, and is within 3 * 2 ^ -52 of the exact one.
+#![tactic(auto)]
+
 ghost use Rattle.std.specs.Prelude.{◌≡◌, ◌^◌, ◌<◌, ◌≤◌};
 ghost use Rattle.zero_count.specs.Inner.Bounds.{Encloses};
 ghost use Rattle.zero_count.specs.ZeroCount.{fraction, low_enough, places, root_digits, zero_count_bound};
@@ -12,7 +14,7 @@ pub mod guess;
 const WHOLE: u64 = 4_503_599_627_370_496;
 
 // The root's digits are low at least, and below high.
-#[derive(Drop)]
+#[derive(Clone, Copy)]
 struct Bounds {
     low: u64,
     high: u64,
