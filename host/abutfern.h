@@ -46,10 +46,6 @@ extern "C" {
 #define ABUTFERN_RECORD_SIZE 61        /* bytes of such a record */
 #define ABUTFERN_NAMED_RECORD_KIND 2   /* a record that tells who predicted as well */
 #define ABUTFERN_NAMED_RECORD_SIZE 66  /* bytes of such a record */
-#define ABUTFERN_TRACE_KIND 16         /* a record of a trace */
-#define ABUTFERN_TRACE_RECORD_SIZE 14  /* bytes of such a record */
-#define ABUTFERN_MCW_FIRST_PLACE 63    /* MultiMCW predicts from this place on: N is samples - 63 */
-#define ABUTFERN_MMC_FIRST_PLACE 2     /* MultiMMC does from this one: N is samples - 2 */
 
 typedef struct {
     uint64_t c;            /* correct predictions */
@@ -92,18 +88,6 @@ typedef struct { uint64_t number, size, told; abutfern_Answer answer; } abutfern
  * that of the first bad one, whose place is `good`, counted from 0; byte: where the first bad one
  * starts, or the length of the input */
 typedef struct { uint64_t good, number, byte; } abutfern_Row;
-
-/* what a record of a trace says of a place. winner: who led at its start, from 1; predicted: 1 if it
- * predicted, 0 if it was silent; symbol: what it predicted, as translated, 0 if silent; hit: 1 for a
- * hit, 0 for a miss or if silent */
-typedef struct { uint64_t place, winner, predicted, symbol, hit; } abutfern_Entry;
-
-/* entry: all 0 if refused */
-typedef struct { uint64_t number; abutfern_Entry entry; } abutfern_EntryReading;
-
-/* good, number and byte as in abutfern_Row; of the good records, how many are hits, how many misses,
- * and the longest stretch of hits with no miss between them */
-typedef struct { uint64_t good, number, byte, hits, misses, longest; } abutfern_TraceReading;
 
 /* Bit i of a capture: at width 1 the symbol itself, else the low `width` bits of each symbol,
  * highest first. Answers 1, 7, 2 (i past the end), 3 (only for the symbol that it reads). */
@@ -169,34 +153,6 @@ abutfern_Answer abutfern_multi_mmc(
 abutfern_Answer abutfern_multi_mmc_literal(
     const uint8_t *symbols, size_t length, uint8_t *out, size_t out_length,
     uint32_t *space, size_t space_length);
-
-/* Traces: a record of ABUTFERN_TRACE_RECORD_SIZE bytes for each predicted place, in order, N in all;
- * docs/RECORDS.md has the layout. Each of the four is its namesake above, with the same answer and the
- * same in lent memory, and leaves the trace's first N records in `trace`; what stands beyond is
- * unchanged. 2 as well where `trace` is shorter than N records, and then, as after every refusal, not
- * a byte of lent memory has changed. */
-abutfern_Answer abutfern_multi_mcw_traced(
-    const uint8_t *symbols, size_t length, uint8_t bits_per_symbol,
-    uint8_t *trace, size_t trace_length);
-abutfern_Answer abutfern_multi_mcw_literal_traced(
-    const uint8_t *symbols, size_t length, uint8_t *out, size_t out_length,
-    uint8_t *trace, size_t trace_length);
-abutfern_Answer abutfern_multi_mmc_traced(
-    const uint8_t *symbols, size_t length, uint8_t bits_per_symbol,
-    uint32_t *counters, size_t counters_length, uint8_t *trace, size_t trace_length);
-abutfern_Answer abutfern_multi_mmc_literal_traced(
-    const uint8_t *symbols, size_t length, uint8_t *out, size_t out_length,
-    uint32_t *space, size_t space_length, uint8_t *trace, size_t trace_length);
-
-/* Reads a trace up to the first bad record: one that is not whole or of another kind (8), that says
- * what no record of a trace says, or whose place is not the one after that of the record before it
- * (9). No bytes are no records, and no error. Of what one of the four left, the hits are C and the
- * longest stretch is the longest run. */
-abutfern_TraceReading abutfern_read_trace(const uint8_t *bytes, size_t length);
-
-/* The record of an index, counted from 0; those before it are not looked at. Answers 8, 9, and 8 past
- * the last. */
-abutfern_EntryReading abutfern_entry_at(const uint8_t *bytes, size_t length, uint64_t i);
 
 /* The smallest of the four estimates, in bits per symbol, and which; none unless all four ran.
  * Answers 7 for its own width first of all; then the number of the first refused one (5 for a

@@ -138,51 +138,6 @@ pub struct Row {
     pub byte: u64,
 }
 
-/// What a record of a trace says of a place.
-#[repr(C)]
-#[derive(Clone, Copy, Debug, Default, PartialEq, Eq)]
-pub struct Entry {
-    /// The place of the sample, counted from 0.
-    pub place: u64,
-    /// The sub-predictor that led at the start of the place, from 1.
-    pub winner: u64,
-    /// 1 where it predicted, 0 where it was silent.
-    pub predicted: u64,
-    /// The symbol that it predicted, as translated; 0 where it was silent.
-    pub symbol: u64,
-    /// 1 for a hit; 0 for a miss, or where it was silent.
-    pub hit: u64,
-}
-
-/// What the reader of one record of a trace says.
-#[repr(C)]
-#[derive(Clone, Copy, Debug, PartialEq, Eq)]
-pub struct EntryReading {
-    /// 0 where a record was read, else 8 or 9.
-    pub number: u64,
-    /// What it says; all 0 where the number is not 0.
-    pub entry: Entry,
-}
-
-/// What the reader of a whole trace says. The counts are of the good records.
-#[repr(C)]
-#[derive(Clone, Copy, Debug, PartialEq, Eq)]
-pub struct TraceReading {
-    /// How many good records stand before the first bad one, or in all. The first bad one is the
-    /// record of this index, counted from 0.
-    pub good: u64,
-    /// 0 where none is bad, else the number of the first bad one, 8 or 9.
-    pub number: u64,
-    /// The byte at which the first bad record starts; the number of bytes where none is bad.
-    pub byte: u64,
-    /// How many are hits.
-    pub hits: u64,
-    /// How many are misses.
-    pub misses: u64,
-    /// The longest stretch of hits with no miss between them.
-    pub longest: u64,
-}
-
 /// The state of a running repetition count test; all 0 where it was never started.
 #[repr(C)]
 #[derive(Clone, Copy, Debug, PartialEq, Eq)]
@@ -265,22 +220,6 @@ functions! {
     "multi_mmc_literal" fn abutfern_multi_mmc_literal(
         symbols: *const u8, length: usize, out: *mut u8, out_length: usize,
         space: *mut u32, space_length: usize) -> Answer;
-    "multi_mcw_traced" fn abutfern_multi_mcw_traced(
-        symbols: *const u8, length: usize, bits_per_symbol: u8,
-        trace: *mut u8, trace_length: usize) -> Answer;
-    "multi_mcw_literal_traced" fn abutfern_multi_mcw_literal_traced(
-        symbols: *const u8, length: usize, out: *mut u8, out_length: usize,
-        trace: *mut u8, trace_length: usize) -> Answer;
-    "multi_mmc_traced" fn abutfern_multi_mmc_traced(
-        symbols: *const u8, length: usize, bits_per_symbol: u8,
-        counters: *mut u32, counters_length: usize,
-        trace: *mut u8, trace_length: usize) -> Answer;
-    "multi_mmc_literal_traced" fn abutfern_multi_mmc_literal_traced(
-        symbols: *const u8, length: usize, out: *mut u8, out_length: usize,
-        space: *mut u32, space_length: usize,
-        trace: *mut u8, trace_length: usize) -> Answer;
-    "read_trace" fn abutfern_read_trace(bytes: *const u8, length: usize) -> TraceReading;
-    "entry_at" fn abutfern_entry_at(bytes: *const u8, length: usize, i: u64) -> EntryReading;
     "board_figure" fn abutfern_board_figure(
         mcw_bits: Answer, mcw_literal: Answer, mmc_bits: Answer, mmc_literal: Answer,
         bits_per_symbol: u8) -> Figure;

@@ -20,8 +20,8 @@ pub extern crate reference;
 pub struct Linking;
 
 pub use ffi::{
-    Alarm, Alphabet, Answer, BitRead, Cutoff, Entry, EntryReading, Estimate, Figure, Reading,
-    RepetitionTest, Row, Solved, TraceReading, Value, Written, exported,
+    Alarm, Alphabet, Answer, BitRead, Cutoff, Estimate, Figure, Reading, RepetitionTest, Row,
+    Solved, Value, Written, exported,
 };
 
 /// The kind of a record that holds an answer without who predicted, and how many bytes it takes.
@@ -31,15 +31,6 @@ pub const RECORD_SIZE: usize = 61;
 /// The kind of a record that tells who predicted as well, and how many bytes it takes.
 pub const NAMED_RECORD_KIND: u64 = 2;
 pub const NAMED_RECORD_SIZE: usize = 66;
-
-/// The kind of a trace's records, and how many bytes each takes. A trace has one for each of the N
-/// predicted places.
-pub const TRACE_KIND: u64 = 16;
-pub const TRACE_RECORD_SIZE: usize = 14;
-
-/// The place at which predictions start: N is the number of samples less this.
-pub const MCW_FIRST_PLACE: usize = 63;
-pub const MMC_FIRST_PLACE: usize = 2;
 
 /// Who predicted: the sub-predictor that won, from 1, and how often it was right. 0 in both says
 /// that there was none.
@@ -199,83 +190,6 @@ pub fn multi_mmc_literal(symbols: &[u8], out: &mut [u8], space: &mut [u32]) -> A
             space.len(),
         )
     }
-}
-
-/// [`multi_mcw`] with a trace of every predicted place in `trace`: answers 0, 1, 7, 6, 2, 3, where 2
-/// says that `trace` has fewer than N times [`TRACE_RECORD_SIZE`] bytes.
-pub fn multi_mcw_traced(symbols: &[u8], bits_per_symbol: u8, trace: &mut [u8]) -> Answer {
-    unsafe {
-        let (trace, length) = (trace.as_mut_ptr(), trace.len());
-        let (symbols, count) = (symbols.as_ptr(), symbols.len());
-        ffi::abutfern_multi_mcw_traced(symbols, count, bits_per_symbol, trace, length)
-    }
-}
-
-/// [`multi_mcw_literal`] with a trace: answers 0, 1, 6, 2.
-pub fn multi_mcw_literal_traced(symbols: &[u8], out: &mut [u8], trace: &mut [u8]) -> Answer {
-    unsafe {
-        ffi::abutfern_multi_mcw_literal_traced(
-            symbols.as_ptr(),
-            symbols.len(),
-            out.as_mut_ptr(),
-            out.len(),
-            trace.as_mut_ptr(),
-            trace.len(),
-        )
-    }
-}
-
-/// [`multi_mmc`] with a trace: answers 0, 1, 7, 6, 2, 3.
-pub fn multi_mmc_traced(
-    symbols: &[u8],
-    bits_per_symbol: u8,
-    counters: &mut [u32],
-    trace: &mut [u8],
-) -> Answer {
-    unsafe {
-        ffi::abutfern_multi_mmc_traced(
-            symbols.as_ptr(),
-            symbols.len(),
-            bits_per_symbol,
-            counters.as_mut_ptr(),
-            counters.len(),
-            trace.as_mut_ptr(),
-            trace.len(),
-        )
-    }
-}
-
-/// [`multi_mmc_literal`] with a trace: answers 0, 1, 6, 2.
-pub fn multi_mmc_literal_traced(
-    symbols: &[u8],
-    out: &mut [u8],
-    space: &mut [u32],
-    trace: &mut [u8],
-) -> Answer {
-    unsafe {
-        ffi::abutfern_multi_mmc_literal_traced(
-            symbols.as_ptr(),
-            symbols.len(),
-            out.as_mut_ptr(),
-            out.len(),
-            space.as_mut_ptr(),
-            space.len(),
-            trace.as_mut_ptr(),
-            trace.len(),
-        )
-    }
-}
-
-/// Reads a trace: how many records are good, and the first that is not; the hits, the misses and the
-/// longest run among the good ones. A place that does not follow the one before it is bad (9).
-pub fn read_trace(bytes: &[u8]) -> TraceReading {
-    unsafe { ffi::abutfern_read_trace(bytes.as_ptr(), bytes.len()) }
-}
-
-/// The record of index `i`, counted from 0, in a trace: answers 0, 8, 9. The records before it are
-/// not looked at.
-pub fn entry_at(bytes: &[u8], i: u64) -> EntryReading {
-    unsafe { ffi::abutfern_entry_at(bytes.as_ptr(), bytes.len(), i) }
 }
 
 /// The smallest of the four estimates, in bits per symbol, and the estimator that gave it; none

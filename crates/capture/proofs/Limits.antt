@@ -20,12 +20,6 @@ limit_small = omega arith
 pub bits_small : (n w : ℕ) → n ≤ symbol_limit → w ≤ 8 → n * w < 4294967296
 bits_small n w h g = lt_of_le_of_lt (le_trans (mul-le-mul_right w h) (mul-le-mul_left symbol_limit g)) limit_small
 
--- whatever the byte that was given for a width
-pub bytes_small : (n w : ℕ) → n ≤ symbol_limit → w < 256 → n * w < 18446744073709551616
-bytes_small n w h g =
-    let most : symbol_limit * 255 < 18446744073709551616 = omega (arith, limit_small) in
-    lt_of_le_of_lt (le_trans (mul-le-mul_right w h) (mul-le-mul_left symbol_limit (omega arith))) most
-
 -- and so is that of a source
 pub source_short : {symbols : List ℕ} {width count : ℕ} → Source symbols width count → count < 4294967296
 source_short S = lt_of_le_of_lt S.within (bits_small _ _ S.short S.narrow)

@@ -61,12 +61,6 @@ module _ {X : Type 0} where
   then_put {l} {at} {fs} {x} {o} {out} f p e =
       and_put (f ∷ []) p (record { stored = e ∙ ap (sets o (at + body_size fs)) (sym (append-nil (little f.width (f.of x)))) })
 
-  -- the same, by the place and the number that the code has for it
-  pub then_at : {l : List ℕ} {at : ℕ} {fs : List (Field X)} {x : X} {o out : List ℕ} (f : Field X) {k v : ℕ} → Put l at fs x o → k ≡ at + body_size fs →
-      v ≡ f.of x → out ≡ sets o k (little f.width v) → Put l at (fs ++ (f ∷ [])) x out
-  then_at {l} {at} {fs} {x} {o} {out} f {k} {v} p e n q =
-      then_put f p (q ∙ ap (λ (i : ℕ). sets o i (little f.width v)) e ∙ ap (λ (i : ℕ). sets o (at + body_size fs) (little f.width i)) n)
-
   -- the head, and the body behind it: the whole record at the start
   pub record_put : (kind : ℕ) (fs : List (Field X)) (x : X) (l : List ℕ) {o out : List ℕ} → record_size fs ≤ length l →
       o ≡ sets l 0 (little length_bytes (following fs) ++ little kind_bytes kind) → out ≡ sets o body_start (body_of fs x) →
@@ -85,21 +79,3 @@ module _ {X : Type 0} where
       ∙ behind_start l head (body_of fs x)
       ∙ ap (sets l 0) whole
       ∙ at_start (record_of kind fs x) l room
-
-  -- the same at any place: the length, the kind and the body, each behind what is before it
-  pub record_at_lem : (kind : ℕ) (fs : List (Field X)) (x : X) (l : List ℕ) (at : ℕ) {o p out : List ℕ} → o ≡ sets l at (little length_bytes (following fs)) →
-      p ≡ sets o (at + length_bytes) (little kind_bytes kind) → out ≡ sets p (at + body_start) (body_of fs x) → out ≡ sets l at (record_of kind fs x)
-  unfolding record_of
-  record_at_lem kind fs x l at {o} {p} {out} e f g =
-      let long = little length_bytes (following fs) in
-      let named = little kind_bytes kind in
-      let second : p ≡ sets l at (long ++ named) =
-      f
-      ∙ ap (λ (t : List ℕ). sets t (at + length_bytes) named) e
-      ∙ ap (λ (k : ℕ). sets (sets l at long) (at + k) named) (sym (little_length length_bytes (following fs)))
-      ∙ sets_append l at long named in
-      g
-      ∙ ap (λ (t : List ℕ). sets t (at + body_start) (body_of fs x)) second
-      ∙ ap (λ (k : ℕ). sets (sets l at (long ++ named)) (at + k) (body_of fs x)) (sym (head_length kind fs))
-      ∙ sets_append l at (long ++ named) (body_of fs x)
-      ∙ ap (sets l at) (append_assoc long named (body_of fs x))

@@ -1,6 +1,6 @@
 -- MultiMCW, SP 800-90B 6.3.7: the race of four windows over a list of samples. Definitions only.
 use Rattle.std.specs.Prelude.{cond, List, [], ◌∷◌, ℕ, ◌+◌, leb, length, get_or}
-use Rattle.race.specs.Race.{Event, Guess, silent, says, outcome_over, race_over}
+use Rattle.race.specs.Race.{Guess, silent, says, outcome_over}
 use Rattle.race.specs.declared.Outcome.{Outcome}
 use Rattle.mcw_bits.specs.Commonest.{commonest, window}
 
@@ -23,10 +23,6 @@ least_samples = size 3 + 1
 unfoldable pub said : List ℕ → ℕ → ℕ → Guess
 said s i j = cond (leb (size j) i) (says (commonest (window s i (size j)))) silent
 
--- the race of the windows, place by place
-abbrev pub race_of : List ℕ → List Event
-race_of s = race_over (length windows) first_place (said s) s
-
--- how it ends
+-- how the race of the windows ends
 abbrev pub outcome_of : List ℕ → Outcome
 outcome_of s = outcome_over (length windows) first_place (said s) s

@@ -5,7 +5,6 @@
 mod advance;
 mod ask;
 mod marks;
-mod noting;
 pub mod run;
 mod score;
 mod search;

@@ -1,14 +1,12 @@
 // The whole run.
-ghost use Rattle.std.specs.Prelude.{◌≡◌, ◌-◌, length};
-ghost use Rattle.trace.specs.Inner.Noted.{Lends, noted};
-ghost use Rattle.mcw_bits.specs.Mcw.{first_place, outcome_of, race_of};
+ghost use Rattle.std.specs.Prelude.{◌≡◌};
+ghost use Rattle.mcw_bits.specs.Mcw.{outcome_of};
 ghost use Rattle.mcw_symbols.specs.Inner.Samples.{Samples};
 
 use crate::Candidates;
 use crate::advance::advance;
 use crate::ask::ask;
 use crate::marks::taking;
-use crate::noting::note_window;
 use crate::score::{RIGHT, score, verdict_of};
 use crate::tell::tell;
 use crate::windows::{enter, leave_all};
@@ -16,11 +14,10 @@ use capture::bits::wide;
 use lanes::part::spread;
 use race::{Leader, Outcome, Tally, count, ended};
 
-// The race over s, whose samples are below k. Each predicted place is noted in the trace, if one is lent.
-pub fn mcw_symbols(s: &[u8], k: usize, trace: &mut [u8]) -> Outcome
-    requires { Samples s.now k × Lends (length s.now - first_place) trace.old }
-    ensures value { result ≡ outcome_of s.now }
-    ensures trace_after { trace.new ≡ noted (race_of s.now) trace.old }
+// The race over s, whose samples are below k.
+pub fn mcw_symbols(s: &[u8], k: usize) -> Outcome
+    requires { Samples s.now k }
+    ensures { result ≡ outcome_of s.now }
 {
     let mut cnt = [0u64; 256];
     let mut latest = [0u64; 256];
@@ -45,11 +42,8 @@ pub fn mcw_symbols(s: &[u8], k: usize, trace: &mut [u8]) -> Outcome
         let asked = heard.candidates;
         let alike = heard.alike;
         let masks = tell(heard.right, part, i);
-        let winner = leader.winner;
-        let verdict = verdict_of(masks, winner);
-        t = count(t, verdict, RIGHT);
+        t = count(t, verdict_of(masks, leader.winner), RIGHT);
         leader = score(&mut scores, masks, leader);
-        note_window(trace, i, winner, verdict, x, &cnt, &latest, k);
         let gone = leave_all(&mut cnt, s, i);
         let key = enter(&mut cnt, &mut latest, x, i);
         c = advance(asked, alike, xs, gone, key);

@@ -14,7 +14,7 @@ fn masked(w: u64, mask: u64) -> u64
 }
 
 // Of the k symbols the one that stands most often in the window of the mask's lane, of those the one seen latest. x is where the search begins.
-pub fn favourite(cnt: &[u64; 256], latest: &[u64; 256], k: usize, mask: u64, x: usize) -> usize
+fn favourite(cnt: &[u64; 256], latest: &[u64; 256], k: usize, mask: u64, x: usize) -> usize
     requires { Searchable cnt.now latest.now k x }
     ensures { Finds cnt.now latest.now k mask result }
 {

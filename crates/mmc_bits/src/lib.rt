@@ -6,8 +6,5 @@ pub mod place;
 mod speakers;
 mod step;
 
-// Predictions start at this place.
-pub const FIRST_PLACE: usize = 2;
-
 // How often a pair occurred.
 pub type Counter = u32;

@@ -1,21 +1,18 @@
 // MultiMMC on bits (SP 800-90B 6.3.9), the whole run: the sixteen levels race, place by place.
 #![tactic(auto)]
 
-ghost use Rattle.std.specs.Prelude.{◌≡◌, ◌++◌, length, drop, replicate, ◌-◌, ◌≤◌};
+ghost use Rattle.std.specs.Prelude.{◌≡◌, ◌++◌, length, drop, replicate, ◌≤◌};
 ghost use Rattle.capture.specs.Inner.Spots.{Source};
 ghost use Rattle.capture.specs.Bits.{bits_of};
-ghost use Rattle.trace.specs.Inner.Noted.{Lends, noted};
-ghost use Rattle.mmc_bits.specs.Levels.{levels, cap, first_place};
-ghost use Rattle.mmc_bits.specs.Mmc.{outcome_of, race_of};
+ghost use Rattle.mmc_bits.specs.Levels.{levels, cap};
+ghost use Rattle.mmc_bits.specs.Mmc.{outcome_of};
 ghost use Rattle.mmc_bits.specs.Space.{size, final};
 
 use capture::bits::{bit_at, first_spot, next_spot};
+use mmc_bits::Counter;
 use mmc_bits::clear::clear;
 use mmc_bits::place::place;
-use mmc_bits::{Counter, FIRST_PLACE};
-use race::{Outcome, SILENT};
-use trace::note;
-use verdicts::Masks;
+use race::Outcome;
 use verdicts::place::{ended, start, step};
 
 // How many counters sixteen levels have.
@@ -32,39 +29,12 @@ fn clear_levels(counters: &mut [Counter], count: usize)
     clear(&mut counters[..count]);
 }
 
-// What level j + 1 said where `bit` came, by its verdict: the bit, the other one, or nothing.
-fn level_says(masks: Masks, j: usize, bit: u8) -> u16 {
-    if (masks.speaking >> j) & 1 == 0 {
-        return SILENT;
-    }
-    if (masks.rights >> j) & 1 == 1 {
-        return bit as u16;
-    }
-    1 - bit as u16
-}
-
-// Notes place i, where `bit` came, if a trace is lent.
-fn note_level(trace: &mut [u8], i: usize, winner: usize, masks: Masks, bit: u8) {
-    if trace.len() == 0 {
-        return;
-    }
-    note(
-        trace,
-        FIRST_PLACE,
-        i,
-        winner,
-        level_says(masks, winner, bit),
-        bit as u16,
-    );
-}
-
-// All places, one after the other, from cleared counters on. Each predicted place is noted in the trace, if one is lent.
-fn run(symbols: &[u8], width: u32, n: usize, counters: &mut [Counter], trace: &mut [u8]) -> Outcome
-    requires source { Source symbols.now width n × Lends (n - first_place) trace.old }
+// All places, one after the other, from cleared counters on.
+fn run(symbols: &[u8], width: u32, n: usize, counters: &mut [Counter]) -> Outcome
+    requires source { Source symbols.now width n }
     requires counters_value { counters.old ≡ replicate (size levels) 0 ++ drop (size levels) counters.old }
     ensures value { result ≡ outcome_of levels cap (bits_of symbols.now width n) }
     ensures counters_after { counters.new ≡ final levels cap (bits_of symbols.now width n) counters.old }
-    ensures trace_after { trace.new ≡ noted (race_of levels cap (bits_of symbols.now width n)) trace.old }
 {
     let mut up = [0u64; 16];
     let mut race = start();
@@ -76,9 +46,7 @@ fn run(symbols: &[u8], width: u32, n: usize, counters: &mut [Counter], trace: &m
         let x = bit_at(symbols, spot);
         let passed = place(counters, i, recent, x as usize, stored);
         let masks = passed.masks;
-        let winner = race.winner;
         race = step(race, &mut up, masks, ALL);
-        note_level(trace, i, winner, masks, x);
         stored = passed.stored;
         recent = (recent * 2 + x as usize) % 65536;
         spot = next_spot(width, spot);
@@ -89,19 +57,12 @@ fn run(symbols: &[u8], width: u32, n: usize, counters: &mut [Counter], trace: &m
 
 // MultiMMC over the first `n` bits of `symbols`, `width` to a symbol. Space need not be cleared first; the counters over all places are
 // left in the first 262,140 numbers.
-pub fn mmc_bits(
-    symbols: &[u8],
-    width: u32,
-    n: usize,
-    counters: &mut [Counter],
-    trace: &mut [u8],
-) -> Outcome
-    requires source { Source symbols.now width n × Lends (n - first_place) trace.old }
+pub fn mmc_bits(symbols: &[u8], width: u32, n: usize, counters: &mut [Counter]) -> Outcome
+    requires source { Source symbols.now width n }
     requires levels_in_bounds { size levels ≤ length counters.old }
     ensures value { result ≡ outcome_of levels cap (bits_of symbols.now width n) }
     ensures counters_after { counters.new ≡ final levels cap (bits_of symbols.now width n) counters.old }
-    ensures trace_after { trace.new ≡ noted (race_of levels cap (bits_of symbols.now width n)) trace.old }
 {
     clear_levels(counters, SIZE);
-    run(symbols, width, n, counters, trace)
+    run(symbols, width, n, counters)
 }

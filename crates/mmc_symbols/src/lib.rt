@@ -1,30 +1,26 @@
 // MultiMMC over a general alphabet (SP 800-90B 6.3.9), the whole run: the sixteen levels race, place by place.
 #![tactic(auto)]
 
-ghost use Rattle.std.specs.Prelude.{◌≡◌, ◌-◌, ◌≤◌, length};
+ghost use Rattle.std.specs.Prelude.{◌≡◌, ◌≤◌, length};
 ghost use Rattle.capture.specs.Limit.{symbol_limit};
-ghost use Rattle.trace.specs.Inner.Noted.{Lends, noted};
-ghost use Rattle.mmc_bits.specs.Levels.{levels, cap, first_place};
-ghost use Rattle.mmc_store.specs.Mmc.{outcome_of, race_of};
+ghost use Rattle.mmc_bits.specs.Levels.{levels, cap};
+ghost use Rattle.mmc_store.specs.Mmc.{outcome_of};
 ghost use Rattle.mmc_store.specs.Space.{size, final};
 ghost use Rattle.mmc_store.specs.Inner.Places.{store};
 
-use mmc_bits::FIRST_PLACE;
 use mmc_bits::clear::clear;
 use mmc_store::place::at_place;
 use race::{Leader, Outcome, SILENT, Tally, count, ended, lead};
-use trace::note;
 
 // How many numbers sixteen levels are lent, and how many of them the tables take.
 const SIZE: usize = 16_777_216;
 
 const STORE: usize = 11_141_120;
 
-// All places, one after the other, from cleared numbers on. Each predicted place is noted in the trace, if one is lent.
-fn run(s: &[u8], space: &mut [u32], trace: &mut [u8]) -> Outcome
-    requires { (length s.now ≤ symbol_limit) × (length space.old ≡ store) × Lends (length s.now - first_place) trace.old }
-    ensures value { result ≡ outcome_of levels cap s.now }
-    ensures trace_after { trace.new ≡ noted (race_of levels cap s.now) trace.old }
+// All places, one after the other, from cleared numbers on.
+fn run(s: &[u8], space: &mut [u32]) -> Outcome
+    requires { (length s.now ≤ symbol_limit) × (length space.old ≡ store) }
+    ensures { result ≡ outcome_of levels cap s.now }
 {
     clear(space);
     let mut entries = [0usize; 16];
@@ -42,23 +38,20 @@ fn run(s: &[u8], space: &mut [u32], trace: &mut [u8]) -> Outcome
         at_place(s, space, &mut entries, &mut nodes, &mut guesses, place);
         let x = s[place] as u16;
         let winner = leader.winner;
-        let guess = guesses[winner];
-        tally = count(tally, guess, x);
+        tally = count(tally, guesses[winner], x);
         leader = lead(&mut scores, &guesses, leader, x);
-        note(trace, FIRST_PLACE, place, winner, guess, x);
         place += 1;
     }
     ended(tally, leader, &scores)
 }
 
 // MultiMMC over the symbols s. Space need not be cleared first; its first 16,777,216 numbers are left zero, and all beyond unchanged.
-pub fn mmc_symbols(s: &[u8], space: &mut [u32], trace: &mut [u8]) -> Outcome
-    requires { (length s.now ≤ symbol_limit) × (size levels ≤ length space.old) × Lends (length s.now - first_place) trace.old }
+pub fn mmc_symbols(s: &[u8], space: &mut [u32]) -> Outcome
+    requires { (length s.now ≤ symbol_limit) × (size levels ≤ length space.old) }
     ensures value { result ≡ outcome_of levels cap s.now }
     ensures space_after { space.new ≡ final levels space.old }
-    ensures trace_after { trace.new ≡ noted (race_of levels cap s.now) trace.old }
 {
-    let outcome = run(s, &mut space[0..STORE], trace);
+    let outcome = run(s, &mut space[0..STORE]);
     clear(&mut space[0..SIZE]);
     outcome
 }

@@ -1,49 +1,38 @@
 // The answer over a track's samples: the race, and what it comes to.
-ghost use Rattle.std.specs.Prelude.{◌≡◌, ◌-◌, ◌≤◌, length};
+ghost use Rattle.std.specs.Prelude.{◌≡◌, ◌≤◌, length};
 ghost use Rattle.capture.specs.Inner.Spots.{Source};
 ghost use Rattle.capture.specs.Bits.{bits_of};
 ghost use Rattle.capture.specs.Limit.{symbol_limit};
-ghost use Rattle.trace.specs.Inner.Noted.{Lends, noted};
-ghost use Rattle.mmc_bits.specs.Levels.{cap, first_place, levels};
-ghost use Rattle.mmc_bits.specs.Mmc as Bits;
+ghost use Rattle.mmc_bits.specs.Levels.{cap, levels};
 ghost use Rattle.mmc_bits.specs.Space as BitSpace;
-ghost use Rattle.mmc_store.specs.Mmc as Store;
 ghost use Rattle.mmc_store.specs.Space as StoreSpace;
 ghost use Rattle.multi_mmc.specs.Tracks.{bits_estimate, least_samples, store_estimate};
 
 use answer::Answer;
-use mmc_bits::FIRST_PLACE;
 use mmc_run::mmc_bits;
 use mmc_symbols::mmc_symbols;
 use rating::rate;
 
-// Over the first n bits of `symbols`, `width` to a symbol. No bytes of trace are none.
-pub fn bits_estimate(
-    symbols: &[u8],
-    width: u32,
-    n: usize,
-    counters: &mut [u32],
-    trace: &mut [u8],
-) -> Answer
-    requires least_samples_le_n { (least_samples ≤ n) × Source symbols.now width n × (BitSpace.size levels ≤ length counters.old) }
-    requires lends { Lends (n - first_place) trace.old }
+// Predictions start at this place.
+const FIRST_PLACE: usize = 2;
+
+// Over the first n bits of `symbols`, `width` to a symbol.
+pub fn bits_estimate(symbols: &[u8], width: u32, n: usize, counters: &mut [u32]) -> Answer
+    requires { (least_samples ≤ n) × Source symbols.now width n × (BitSpace.size levels ≤ length counters.old) }
     ensures value { result ≡ bits_estimate (bits_of symbols.now width n) }
     ensures counters_after { counters.new ≡ BitSpace.final levels cap (bits_of symbols.now width n) counters.old }
-    ensures trace_after { trace.new ≡ noted (Bits.race_of levels cap (bits_of symbols.now width n)) trace.old }
 {
-    let outcome = mmc_bits(symbols, width, n, counters, trace);
+    let outcome = mmc_bits(symbols, width, n, counters);
     rate(outcome, (n - FIRST_PLACE) as u64, 2)
 }
 
 // Over `samples`, of which k are distinct.
-pub fn store_estimate(samples: &[u8], k: u64, space: &mut [u32], trace: &mut [u8]) -> Answer
-    requires least_samples_in_bounds { (least_samples ≤ length samples.now) × (length samples.now ≤ symbol_limit) × (StoreSpace.size levels ≤ length space.old) }
-    requires lends { Lends (length samples.now - first_place) trace.old }
+pub fn store_estimate(samples: &[u8], k: u64, space: &mut [u32]) -> Answer
+    requires { (least_samples ≤ length samples.now) × (length samples.now ≤ symbol_limit) × (StoreSpace.size levels ≤ length space.old) }
     ensures value { result ≡ store_estimate samples.now k }
     ensures space_after { space.new ≡ StoreSpace.final levels space.old }
-    ensures trace_after { trace.new ≡ noted (Store.race_of levels cap samples.now) trace.old }
 {
-    let outcome = mmc_symbols(samples, space, trace);
+    let outcome = mmc_symbols(samples, space);
     let n = samples.len() - FIRST_PLACE;
     rate(outcome, n as u64, k)
 }

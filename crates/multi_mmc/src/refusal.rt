@@ -1,6 +1,5 @@
 // By which number the literal track refuses a capture.
 ghost use Rattle.std.specs.Prelude.{◌≡◌};
-ghost use Rattle.trace.specs.Lent.{traced_number};
 ghost use Rattle.multi_mmc.specs.Tracks.{literal_number, needed};
 
 use crate::{BINARY_SPACE, GENERAL_SPACE, LEAST_SAMPLES};
@@ -19,9 +18,9 @@ fn space_needed(symbols: &[u8]) -> usize
     }
 }
 
-// The number by which the literal track is refused, or 0. `short` says that a lent trace is.
-pub fn literal_refusal(symbols: &[u8], out: &[u8], space: &[u32], short: bool) -> u64
-    ensures { result ≡ traced_number short (literal_number symbols.now out.now space.now) }
+// The number by which the literal track is refused, or 0.
+pub fn literal_refusal(symbols: &[u8], out: &[u8], space: &[u32]) -> u64
+    ensures { result ≡ literal_number symbols.now out.now space.now }
 {
     if SYMBOL_LIMIT < symbols.len() {
         return TOO_LONG;
@@ -35,5 +34,5 @@ pub fn literal_refusal(symbols: &[u8], out: &[u8], space: &[u32], short: bool) -
     if space.len() < space_needed(symbols) {
         return TOO_SHORT;
     }
-    if short { TOO_SHORT } else { DONE }
+    DONE
 }

@@ -13,7 +13,7 @@ use capture::bits::SYMBOL_LIMIT;
 use counts::impossible_counts;
 
 // The windows or levels that can win are at most so many.
-pub const WINNER_LIMIT: u64 = 16;
+const WINNER_LIMIT: u64 = 16;
 
 // An answer as a record holds it. In `Unnamed` who predicted is absent: its winner and score say nothing.
 #[derive(Clone, Copy)]
