@@ -5,19 +5,15 @@ use Prim.Native.Nat.{ℕ}
 use lib.Dec.{leb, eqb}
 use borrow.Author.Tests.{le-leb, lt-leb}
 use Rattle.answer.specs.Numbers.{bad_state, bad_width, given}
-use Rattle.answer.proofs.is_given.Statement.{statement}
-use Rattle.answer.proofs.is_given.Tie as tie
+use Rattle.answer.proofs.is_given.Goals as goal
 
 -- what the first test leaves
 tested : (n : ℕ) (b : Bool) → leb n bad_width ≡ b → (b || eqb n bad_state) ≡ given n
 unfolding given
 tested n b e = sym (ap (λ (t : Bool). t || eqb n bad_state) e)
 
-returns : tie.Need-returns
-returns c = tested c.before.args.number true (le-leb _ _ c.if1.true)
+pub returns-then-number-le-BAD_WIDTH : goal.returns-then-number-le-BAD_WIDTH
+returns-then-number-le-BAD_WIDTH c = tested c.args.number true (le-leb _ _ c.if-number-le-BAD_WIDTH.true)
 
-returns-2 : tie.Need-returns-2
-returns-2 c = tested c.before.args.number _ (lt-leb _ _ c.if1.false)
-
-pub is-given-spec : {M : Type 1} → statement M
-is-given-spec = tie.close (tie.spec returns returns-2)
+pub returns : goal.returns
+returns c = tested c.args.number _ (lt-leb _ _ c.if-number-le-BAD_WIDTH.false)
