@@ -22,6 +22,8 @@ finite_between (fin s m e) (fin t n d) hi p q h k = tt
 
 pub value_no_nan : (v : Float) (s : Bool) (a c : ℕ) → HasValue v s a c → T (not (is_nan v))
 unfolding is_nan
+value_no_nan nan s a c h = elim h [ ]
+value_no_nan (inf _) s a c h = elim h [ ]
 value_no_nan (fin t m e) s a c h = tt
 
 units_number : (f : Format) (s : Bool) (q k : ℕ) → T (not (is_nan (units f s q k)))

@@ -4,7 +4,7 @@
 -- (a / c) * 2 ^ -prec.
 -- No real numbers: each bound is multiplied out. Assumes nothing.
 use mathlib.Core.Path.{◌≡◌, sym, ap, ◌∙◌, subst}
-use Prim.Native.Nat.{ℕ, suc, ◌+◌, ◌-◌, ◌*◌, ◌/◌, ◌%◌, ◌^◌, ◌≤◌, ◌<◌, compare}
+use Prim.Native.Nat.{ℕ, zero, suc, ◌+◌, ◌-◌, ◌*◌, ◌/◌, ◌%◌, ◌^◌, ◌≤◌, ◌<◌, compare}
 use native.Mathlib.Nat.{le_trans, le_of_eq, lt_of_lt_of_le, mul_comm, mul_assoc, mul-le-mul_right, mul-le-mul_left, le_of_mul-le-mul_right}
 use native.Mathlib.Nat.{lt_of_mul-lt-mul_right, mul-pos, pow-suc, le-div_iff_mul-le}
 use native.Mathlib.Omega.{arith}
@@ -53,6 +53,7 @@ below_top G K M k m h = lt_of_mul-lt-mul_right K (strict (mul-le-mul_left M k) h
     strict a b = omega arith
 
 twice : (p : ℕ) → 0 < p → 2 ^ p ≡ 2 * 2 ^ (p - 1)
+twice zero P = absurd (omega arith)
 twice (suc p) P = subst (λ (z : ℕ). 2 ^ suc p ≡ 2 * 2 ^ z) (sym (sub_suc_one p)) (pow-suc 2 p ∙ mul_comm (2 ^ p) 2)
   where
     sub_suc_one : (n : ℕ) → suc n - 1 ≡ n
