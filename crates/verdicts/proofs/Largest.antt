@@ -3,7 +3,7 @@ use mathlib.Core.Path.{◌≡◌, refl}
 use mathlib.Core.Bool.{Bool}
 use Prim.Native.Nat.{ℕ, zero, suc, ◌+◌, ◌-◌, ◌≤◌, ◌<◌}
 use native.Mathlib.Omega.{arith}
-use lib.ListN.{get_or, replicate, length-replicate}
+use lib.ListN.{get_or, length-replicate}
 use Rattle.race.specs.Race.{Guess, judge, Standing, standing, final_score}
 use Rattle.race.proofs.Standing.{no_score}
 use Rattle.verdicts.specs.Inner.Deficits.{is_right, gain, Behind}
