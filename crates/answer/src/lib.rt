@@ -74,6 +74,7 @@ pub struct Solved {
 }
 
 // Whether a number is one that a result can have.
+#[tactic(auto, unfolding(crate::specs::Numbers::given))]
 pub fn is_given(number: u64) -> bool
     ensures { result ≡ given number }
 {

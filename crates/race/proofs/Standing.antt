@@ -1,7 +1,7 @@
 -- The standing after some places, over any number of sub-predictors, any guesses and any truth; and the events, one for each place in order. Assumes nothing.
 use mathlib.Core.Path.{◌≡◌, refl, ap, ◌∙◌}
 use mathlib.Core.Bool.{Bool, true, false, cond}
-use mathlib.Core.List.{List, [], ◌∷◌}
+use mathlib.Core.List.{[], ◌∷◌}
 use Prim.Native.Nat.{ℕ, zero, suc, ◌+◌, ◌≤◌, ◌<◌}
 use native.Mathlib.Omega.{arith}
 use native.Mathlib.Numerals.{add-one}
@@ -9,7 +9,7 @@ use lib.Dec.{leb}
 use lib.ListN.{length, get_or, set, replicate, length-set, length-replicate, length-append, get_or-append}
 use lib.Seq.{get_or-set_same, get_or-set_other, get_or_at}
 use Rattle.race.specs.Inner.Held.{settled}
-use Rattle.race.specs.Race.{Guess, silent, Verdict, hit, miss, none, judge, Standing, point, settle, scored, Event, longest}
+use Rattle.race.specs.Race.{Guess, Verdict, hit, miss, none, judge, Standing, point, settle, scored, Event, longest}
 use Rattle.race.specs.Race.{standing, event, events, hits, final_score}
 use Rattle.race.proofs.Cases.{same?}
 use Rattle.race.proofs.Trace.{hits_le, longest_le_hits, hits_longest}

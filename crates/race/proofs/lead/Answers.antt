@@ -1,14 +1,13 @@
 -- `race::lead` meets its contract. After j guesses the scores and the winner are those of `scored` for the first j, and the bar is the winner's
 -- score, and 1 at least;
 -- a right guess claims its new score, so it reaches the bar just when its score is at least the winner's, and 0 never reaches it. Assumes nothing.
-use Prim.Native.Nat.{◌<◌, ◌-◌}
+use Prim.Native.Nat.{◌<◌}
 use mathlib.Core.Path.{◌≡◌, ◌∙◌}
-use mathlib.Core.Logic.{⊎_elim}
 use native.Mathlib.Omega.{arith}
 use lib.ListN.{length}
 use Rattle.race.specs.Inner.Held.{after, heard_from}
 use Rattle.race.proofs.Standing.{scored_settled}
-use Rattle.race.proofs.Held.{Round, round_none, round_length, round-fits, round_passes, round_claims, round_wins, round_waits}
+use Rattle.race.proofs.Held.{round_none, round_length, round-fits, round_passes, round_claims, round_wins, round_waits}
 use Rattle.race.proofs.lead.Goals as goal
 use Rattle.race.proofs.lead.Goals.{then-guesses-j, else-guesses-j, then-bar-claim, else-bar-claim}
 
@@ -34,17 +33,17 @@ loop-j-preserved c =
     let Q = c.loop-j.invariant in
     let jl : c.loop-j.j < length c.args.guesses.now = omega arith in
     elim c.if-guesses-j.branch [
-      then-guesses-j v ↦ elim c.if-bar-claim.branch [
-        then-bar-claim u ↦ round_wins A Q jl v.if-guesses-j.true c.if-guesses-j.points v.points-is
-          (omega (arith, v.points-is, v.claim-is, u.if-bar-claim.true)) c.if-bar-claim.winner c.if-bar-claim.bar u.winner-is
-          (omega (arith, v.points-is, v.claim-is, u.bar-is))
+      | then-guesses-j v ↦ elim c.if-bar-claim.branch [
+        | then-bar-claim u ↦ round_wins A Q jl v.if-guesses-j.true c.if-guesses-j.points v.points-is
+            (omega (arith, v.points-is, v.claim-is, u.if-bar-claim.true)) c.if-bar-claim.winner c.if-bar-claim.bar u.winner-is
+            (omega (arith, v.points-is, v.claim-is, u.bar-is))
         | else-bar-claim u ↦ round_waits A Q jl v.if-guesses-j.true c.if-guesses-j.points v.points-is
-          (omega (arith, v.points-is, v.claim-is, u.if-bar-claim.false)) c.if-bar-claim.winner c.if-bar-claim.bar u.winner-is u.bar-is
+            (omega (arith, v.points-is, v.claim-is, u.if-bar-claim.false)) c.if-bar-claim.winner c.if-bar-claim.bar u.winner-is u.bar-is
       ]
       | else-guesses-j v ↦ elim c.if-bar-claim.branch [
-        then-bar-claim u ↦ absurd (round_claims A Q jl v.if-guesses-j.false (omega (arith, v.claim-is, u.if-bar-claim.true)))
+        | then-bar-claim u ↦ absurd (round_claims A Q jl v.if-guesses-j.false (omega (arith, v.claim-is, u.if-bar-claim.true)))
         | else-bar-claim u ↦ round_passes A Q jl v.if-guesses-j.false c.if-guesses-j.points c.if-bar-claim.winner c.if-bar-claim.bar v.points-is
-          u.winner-is u.bar-is
+            u.winner-is u.bar-is
       ]
     ]
 

@@ -1,11 +1,6 @@
-use Prim.Native.Nat.{◌<◌, ◌-◌}
-use mathlib.Core.Path.{◌≡◌, ◌∙◌}
-use mathlib.Core.Logic.{⊎_elim}
-use native.Mathlib.Omega.{arith}
+use Prim.Native.Nat.{◌-◌}
 use lib.ListN.{length}
-use Rattle.race.specs.Inner.Held.{after, heard_from}
-use Rattle.race.proofs.Standing.{scored_settled}
-use Rattle.race.proofs.Held.{Round, round_none, round_length, round-fits, round_passes, round_claims, round_wins, round_waits}
+use Rattle.race.proofs.Held.{Round}
 use Rattle.race.proofs.lead.Given as goal
 
 abbrev pub invariant-loop-j : goal.invariant-loop-j
