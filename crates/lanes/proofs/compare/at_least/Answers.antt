@@ -2,14 +2,10 @@
 -- next, and its mark is left where b is not larger. Assumes nothing.
 use native.Mathlib.Omega.{arith}
 use Rattle.lanes.proofs.Comparing.{at_least_fits, at_least_told}
-use Rattle.lanes.proofs.compare.at_least.Statement.{statement}
-use Rattle.lanes.proofs.compare.at_least.Tie as tie
+use Rattle.lanes.proofs.compare.at_least.Goals as goal
 
-sub-result : tie.Need-overflow-sub-result
-sub-result c = at_least_fits c.args.a c.args.b c.requires.0 c.requires.1 (omega arith)
+pub overflow_sub-result : goal.overflow_sub-result
+overflow_sub-result c = at_least_fits c.args.a c.args.b c.requires.0 c.requires.1 (omega arith)
 
-returns : tie.Need-returns
+pub returns : goal.returns
 returns c = at_least_told c.args.a c.args.b c.requires.0 c.requires.1 (omega arith)
-
-pub at-least-spec : {M : Type 1} → statement M
-at-least-spec = tie.close (tie.spec sub-result returns)

@@ -2,14 +2,10 @@
 -- that they stand beside each other. Assumes nothing.
 use native.Mathlib.Omega.{arith}
 use Rattle.lanes.proofs.Gathering.{gather_lt, gather_told}
-use Rattle.lanes.proofs.part.gather.Statement.{statement}
-use Rattle.lanes.proofs.part.gather.Tie as tie
+use Rattle.lanes.proofs.part.gather.Goals as goal
 
-cast-result : tie.Need-overflow-cast-result
-cast-result c = omega (arith, gather_lt c.args.marks)
+pub overflow_cast-result : goal.overflow_cast-result
+overflow_cast-result c = omega (arith, gather_lt c.args.marks)
 
-returns : tie.Need-returns
+pub returns : goal.returns
 returns c = (gather_lt c.args.marks, gather_told c.args.marks (omega arith) c.requires)
-
-pub gather-spec : {M : Type 1} → statement M
-gather-spec = tie.close (tie.spec cast-result returns)
