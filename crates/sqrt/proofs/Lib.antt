@@ -10,4 +10,5 @@ pub mod Special
 pub mod CorrectRounding
 pub mod Range
 pub mod Above
+pub mod Steps
 mod Examples

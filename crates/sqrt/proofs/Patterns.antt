@@ -86,6 +86,8 @@ value_of b l =
 
 pub to_bits_value : (f : Format) (v : Float) (a : ℕ) → HasValue v false a (2 ^ low f) → to_bits f v ≡ (size a - prec f) * hid f + a / 2 ^ (size a - prec f)
 unfolding to_bits
+to_bits_value f nan a h = elim h [ ]
+to_bits_value f (inf _) a h = elim h [ ]
 to_bits_value f (fin true m e) a h = absurd (true≢false h.0)
 to_bits_value f (fin false m e) a h =
     ap (λ (n : ℕ). 0 + (size n - prec f) * hid f + n / 2 ^ (size n - prec f)) (ap (λ (x : ℕ). x / down e) h.1 ∙ mul-div_cancel a (down_pos e))

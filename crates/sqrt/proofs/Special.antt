@@ -48,6 +48,8 @@ zero_by_zero = refl
 -- by the number of smallest values that it is
 pub root_of_units : (f : Format) (x : Float) (n : ℕ) → 0 < n → HasValue x false n (2 ^ low f) → sqrt_of f x ≡ rounded f (n * 2 ^ low f)
 unfolding sqrt_of
+root_of_units f nan n h v = elim v [ ]
+root_of_units f (inf _) n h v = elim v [ ]
 root_of_units f (fin true m e) n h v = absurd (true≢false v.0)
 root_of_units f (fin false zero e) n h v = absurd (some_units e n (2 ^ low f) h v.1)
 root_of_units f (fin false (suc m) e) n h v = ap (λ (z : ℕ). rounded f (z * 2 ^ low f)) (ap (λ (z : ℕ). z / down e) v.1 ∙ mul-div_cancel n (down_pos e))

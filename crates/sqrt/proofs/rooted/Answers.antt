@@ -3,56 +3,29 @@
 use mathlib.Core.Path.{sym, subst}
 use Prim.Native.Nat.{ℕ, ◌+◌, ◌-◌, ◌*◌, ◌/◌, ◌%◌, ◌^◌}
 use native.Mathlib.Omega.{arith}
-use borrow.Author.Rules.{rules}
 use Rattle.sqrt.specs.Inner.Steps.{Rooted}
 use Rattle.sqrt.proofs.Powers.{one_or_two, split_pow}
 use Rattle.sqrt.proofs.Rounded.{sig_in, rooted}
-use Rattle.sqrt.proofs.rooted.Statement.{statement}
-use Rattle.sqrt.proofs.rooted.Tie as tie
+use Rattle.sqrt.proofs.rooted.Goals as goal
 
-sub-result : tie.Need-overflow-sub-result
-sub-result c = search rules
+pub overflow_mul-q : goal.overflow_mul-q
+overflow_mul-q c = omega (arith, one_or_two c.args.q c.args.e)
 
-mul-result : tie.Need-overflow-mul-result
-mul-result c = search rules
+pub nearest-requires : goal.nearest-requires
+nearest-requires c = omega (arith, one_or_two c.args.q c.args.e)
 
-add-nearest : tie.Need-overflow-add-nearest
-add-nearest c = search rules
-
-mul-nearest : tie.Need-overflow-mul-nearest
-mul-nearest c = omega (arith, one_or_two c.args.q c.args.e)
-
-guess-requires : tie.Need-guess-requires
-guess-requires c κs = search rules
-
-nearest-requires : tie.Need-nearest-requires
-nearest-requires c κs = omega (arith, one_or_two c.before.args.q c.before.args.e)
-
-add-result : tie.Need-overflow-add-result
-add-result c =
-    let a = c.before.before.args in
+pub overflow_add-result : goal.overflow_add-result
+overflow_add-result c =
+    let a = c.args in
     let w = one_or_two a.q a.e in
     omega (arith, c.nearest.ensures, sig_in (a.q * (1 + a.e % 2)) (omega arith) (omega arith))
 
-returns : tie.Need-returns
+pub returns : goal.returns
 returns c =
-    let a = c.before.before.args in
+    let a = c.args in
     let m = a.q * (1 + a.e % 2) in
     let h = a.e / 2 in
     let w = one_or_two a.q a.e in
     subst (λ (n : ℕ). Rooted n ((h - 26) * 2 ^ 52 + c.nearest.result)) (split_pow a.q a.e)
     (subst (λ (x : ℕ). Rooted (m * 4 ^ h) ((h - 26) * 2 ^ 52 + x)) (sym c.nearest.ensures)
     (rooted m h (omega arith) (omega arith) (omega arith) (omega arith)))
-
-pub rooted-spec : {M : Type 1} → statement M
-rooted-spec =
-    tie.close
-    (tie.spec
-    sub-result
-    mul-result
-    add-nearest
-    mul-nearest
-    guess-requires
-    nearest-requires
-    add-result
-    returns)
