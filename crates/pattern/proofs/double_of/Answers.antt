@@ -6,10 +6,8 @@ use Prim.Native.Nat.{ℕ, ◌%◌, ◌<◌, ◌≤◌}
 use lib.Dec.{T}
 use lib.Ieee.{Float, nan, inf, fin, binary64, is_nan, nan_bits, of_bits, div}
 use lib.Ieee.Bits.{nan_bits_is, nan_bits_above}
-use borrow.Author.Rules.{rules}
 use borrow.Author.Tests.{lt-ltb, le-ltb}
-use Rattle.pattern.proofs.double_of.Statement.{statement}
-use Rattle.pattern.proofs.double_of.Tie as tie
+use Rattle.pattern.proofs.double_of.Goals as goal
 
 above : (b : ℕ) → 0x7ff0_0000_0000_0000 < b % 0x8000_0000_0000_0000 → nan_bits binary64 b ≡ true
 above b h = nan_bits_above binary64 b ∙ lt-ltb 0x7ff0_0000_0000_0000 (b % 0x8000_0000_0000_0000) h
@@ -27,16 +25,10 @@ zero_by_zero : div binary64 (of_bits binary64 0) (of_bits binary64 0) ≡ nan
 unfolding div of_bits
 zero_by_zero = refl
 
-returns : tie.Need-returns
-returns c =
-    let b = c.before.args.bits in
-    zero_by_zero ∙ only_nan (of_bits binary64 b) (sym (nan_bits_is binary64 b) ∙ above b c.if1.true)
+pub returns-then-bits-gt9218868437227405312 : goal.returns-then-bits-gt9218868437227405312
+returns-then-bits-gt9218868437227405312 c =
+    let b = c.args.bits in
+    zero_by_zero ∙ only_nan (of_bits binary64 b) (sym (nan_bits_is binary64 b) ∙ above b c.if-bits-gt9218868437227405312.true)
 
-float-from-bits-result : tie.Need-float-from-bits-result
-float-from-bits-result c = subst (λ (b : Bool). T (not b)) (sym (below c.before.args.bits c.if1.false)) tt
-
-returns-2 : tie.Need-returns-2
-returns-2 c = search rules
-
-pub double-of-spec : {M : Type 1} → statement M
-double-of-spec = tie.close (tie.spec returns float-from-bits-result returns-2)
+pub float_from_bits-result : goal.float_from_bits-result
+float_from_bits-result c = subst (λ (b : Bool). T (not b)) (sym (below c.args.bits c.if-bits-gt9218868437227405312.false)) tt

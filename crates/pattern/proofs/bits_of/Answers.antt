@@ -5,9 +5,7 @@ use mathlib.Core.Bool.{false, not, true≢false}
 use lib.Dec.{T}
 use lib.Ieee.{Float, nan, inf, fin, binary64, is_nan, ne, to_bits}
 use lib.Ieee.Compare.{differs_from_itself, nan_differs}
-use borrow.Author.Rules.{rules}
-use Rattle.pattern.proofs.bits_of.Statement.{statement}
-use Rattle.pattern.proofs.bits_of.Tie as tie
+use Rattle.pattern.proofs.bits_of.Goals as goal
 
 no_nan : (x : Float) → ne x x ≡ false → T (not (is_nan x))
 unfolding is_nan
@@ -19,14 +17,8 @@ nan_pattern : 0x7ff8_0000_0000_0000 ≡ to_bits binary64 nan
 unfolding to_bits
 nan_pattern = refl
 
-returns : tie.Need-returns
-returns c = nan_pattern ∙ ap (to_bits binary64) (sym (differs_from_itself c.before.args.x (subst T (sym c.if1.true) tt)))
+pub returns-then-x : goal.returns-then-x
+returns-then-x c = nan_pattern ∙ ap (to_bits binary64) (sym (differs_from_itself c.args.x (subst T (sym c.if-x.true) tt)))
 
-float-to-bits-result : tie.Need-float-to-bits-result
-float-to-bits-result c = no_nan c.before.args.x c.if1.false
-
-returns-2 : tie.Need-returns-2
-returns-2 c = search rules
-
-pub bits-of-spec : {M : Type 1} → statement M
-bits-of-spec = tie.close (tie.spec returns float-to-bits-result returns-2)
+pub float_to_bits-result : goal.float_to_bits-result
+float_to_bits-result c = no_nan c.args.x c.if-x.false
