@@ -2,7 +2,7 @@
 -- made, and 0 is none. Each has a key, two links and two values. The keys of one residue are a tree, in which the binary digits of the quotient
 -- lead the way: an entry that is made stands where a walk for its key ends.
 -- Assumes nothing.
-use Rattle.std.specs.Prelude.{ℕ, zero, suc, ◌+◌, ◌*◌, ◌/◌, ◌%◌, ◌≤◌, ◌<◌, ◌≡◌, Bool, cond, ◌&&◌, List, length, get_or, set, eqb, ltb}
+use Rattle.std.specs.Prelude.{ℕ, zero, suc, ◌+◌, ◌*◌, ◌/◌, ◌%◌, ◌≤◌, ◌<◌, ◌≡◌, cond, ◌&&◌, List, length, get_or, set, eqb, ltb}
 
 -- how many numbers a table has, how many entries it has room for, how many trees there are, and what every key is below
 abbrev pub size : ℕ
