@@ -5,7 +5,7 @@ ghost use Rattle.std.specs.Prelude.{◌≡◌, length};
 ghost use Rattle.mcw_report.specs.Report.{report_of, report_output};
 
 use answer::{Answer, TOO_LONG};
-use libc::{STDIN_FILENO, STDOUT_FILENO};
+use std::io;
 
 // The largest number of symbols that is reported on.
 pub const REPORT_LIMIT: usize = 16_384;
@@ -28,23 +28,25 @@ fn room() -> [u8; 16385]
 }
 
 // Writes the first n bytes of a text.
-fn write_first(text: &[u8], n: usize) {
+fn write_first(rt: &impl Print, text: &[u8], n: usize) -> io::Result<()> {
     if n <= text.len() {
-        io::write_all(STDOUT_FILENO, &text[0..n]);
+        return rt.write_all(&text[0..n]);
     }
+    Ok(())
 }
 
 // Writes the line of an answer.
-fn print(a: Answer) {
+fn print(rt: &impl Print, a: Answer) -> io::Result<()> {
     let mut text = [0u8; report_line::LONGEST];
     let n = report_line::line(a, &mut text);
-    write_first(&text, n);
+    write_first(rt, &text, n)
 }
 
-// Reads the capture and writes its line.
-pub fn report() {
+// Reads the capture and writes its line. A read or a write that fails ends it.
+pub fn report(rt: &(impl Input + Print)) -> io::Result<()> {
     let mut symbols = room();
-    let n = io::read_full(STDIN_FILENO, &mut symbols);
+    let mut input = rt.reader();
+    let n = reading::fill(&mut input, &mut symbols)?;
     let mut out = room();
-    print(reported(&symbols[..n], &mut out));
+    print(rt, reported(&symbols[..n], &mut out))
 }

@@ -49,11 +49,7 @@ pub fn bit(symbols: &[u8], width: u8, expected: &[u8]) -> bool {
 
 // Whether `out` starts with the expected bytes.
 fn starts(out: &[u8], expected: &[u8]) -> bool {
-    let n = expected.len();
-    if n <= out.len() {
-        return check::same(&out[0..n], expected);
-    }
-    false
+    out.starts_with(expected)
 }
 
 pub fn dense_alphabet(symbols: &[u8], words: &[u8], expected: &[u8]) -> bool {

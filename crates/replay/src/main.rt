@@ -9,6 +9,9 @@ mod lines;
 mod numbers;
 mod read;
 
+use std::fs::File;
+use std::io;
+
 // What a case comes to, and how long it is; a length of 0 says that the list ends within it.
 #[derive(Clone, Copy)]
 struct Outcome {
@@ -37,7 +40,7 @@ fn step(rest: &[u8]) -> Outcome {
 // Adds one to the count of a kind.
 fn add(counts: &mut [u64; 16], kind: usize) {
     if kind < 16 {
-        counts[kind] = std::num::wrapping_add_u64(counts[kind], 1);
+        counts[kind] = counts[kind].wrapping_add(1);
     }
 }
 
@@ -73,25 +76,20 @@ fn replay(bytes: &[u8], compared: &mut [u64; 16], differ: &mut [u64; 16]) -> boo
 }
 
 // Replays the list and prints what it comes to.
-fn report(bytes: &[u8]) {
+fn report(rt: &impl Print, bytes: &[u8]) -> io::Result<()> {
     let mut compared = [0u64; 16];
     let mut differ = [0u64; 16];
     if !replay(bytes, &mut compared, &mut differ) {
-        io::write_all(libc::STDOUT_FILENO, b"answers.bin ends within a case\n");
+        println!(rt; "answers.bin ends within a case")?;
     }
-    lines::print_functions(&compared, &differ);
-    lines::print_estimators(&compared, &differ);
-    lines::print_total(compared[0], differ[0]);
+    lines::print_functions(rt, &compared, &differ)?;
+    lines::print_estimators(rt, &compared, &differ)?;
+    lines::print_total(rt, compared[0], differ[0])
 }
 
-fn main() {
-    let fd = os::open_read(b"answers.bin");
-    if fd < 0 {
-        os::fail(b"answers.bin");
-        return;
-    }
+fn main(rt: HostRuntime) -> io::Result<()> {
+    let mut file = File::open(&rt, "answers.bin")?;
     let mut bytes = read::room();
-    let n = io::read_full(fd, &mut bytes);
-    libc::close(fd);
-    report(&bytes[..n]);
+    let n = reading::fill(&mut file, &mut bytes)?;
+    report(&rt, &bytes[..n])
 }

@@ -1,10 +1,12 @@
-// The C interface. Each function that changes a state is thin: it takes the state from behind the reference, and puts back what the step made of it.
+// The C interface of the repetition test. Each function that changes a state is thin: it takes the state from behind the reference, and puts back what the step made of it.
+#![tactic(auto)]
+
 ghost use Rattle.std.specs.Prelude.{◌≡◌};
 ghost use Rattle.cutoff.specs.Cutoff.{cutoff_of};
 ghost use Rattle.repetition.specs.Repetition.{Sampled, begin_number, begun};
 
-use crate::step::{Alarm, RepetitionTest, begin, hear};
 use cutoff::Cutoff;
+use repetition::{Alarm, RepetitionTest, begin, hear};
 
 // How many equal samples in a row the alarm stands at, for an entropy in bits per sample.
 #[unsafe(no_mangle)]
