@@ -1,5 +1,5 @@
 -- A read adds its bytes behind those that stand, and one that gives none ends the input.
-use Rattle.std.proofs.Common.{◌≡◌, ℕ, ◌+◌, ◌-◌, ◌≤◌, List, ◌++◌, rules, arith, length, take, slice_range, sym, ap, ◌∙◌, subst, le_refl, drop_at, length-take-le, take_all}
+use Rattle.std.proofs.Common.{◌≡◌, ℕ, ◌+◌, ◌-◌, ◌≤◌, List, ◌++◌, rules, arith, length, take, slice_range, sym, ap, ◌∙◌, subst, le_refl, drop_at, length-take-le}
 use Rattle.std.proofs.lemmas.Slice.{take-put_mid_below}
 use Rattle.std.specs.Io.KnownBytes.{Consumes}
 use Rattle.std.proofs.KnownBytes.{Consumes-trans, Consumes-kept}
@@ -24,15 +24,16 @@ loop-preserved g c =
     let from = c.loop.done in
     let room = length c.loop.out - from in
     let within = c.loop.invariant.1 in
-    elim c.match-read.branch
-    [ in-Ok w ↦
-    let n = w.in-Ok.n in
-    let part = slice_range-put_mid from room n c.loop.out c.read.new.buf within (search rules) in
-    let joined = take_split from (from + n) c.loop.out (put_mid from room c.loop.out c.read.new.buf) (omega arith) (take-put_mid_below _ _ _ _ _ (le_refl _) within) in
-    subst (λ d. (length (put_mid from room c.loop.out c.read.new.buf) ≡ length c.args.out.now) × (d ≤ length (put_mid from room c.loop.out c.read.new.buf)) × Consumes (g.R.Read.remaining c.args.input.now) (g.R.Read.remaining c.read.new.self) (take d (put_mid from room c.loop.out c.read.new.buf)))
-    (sym w.done-is)
-    (search rules, search rules, subst (Consumes _ _) (ap (λ l. take from c.loop.out ++ l) (sym part) ∙ joined) (Consumes-trans _ _ _ _ _ c.loop.invariant.2 (search rules)))
-    | in-Err+else-ne w ↦
-    subst (λ d. (length (put_mid from room c.loop.out c.read.new.buf) ≡ length c.args.out.now) × (d ≤ length (put_mid from room c.loop.out c.read.new.buf)) × Consumes (g.R.Read.remaining c.args.input.now) (g.R.Read.remaining c.read.new.self) (take d (put_mid from room c.loop.out c.read.new.buf)))
-    (sym w.done-is)
-    (search rules, search rules, subst (Consumes _ _) (sym (take-put_mid_below _ _ _ _ _ (le_refl _) within)) (Consumes-kept _ _ _ _ c.loop.invariant.2 w.in-Err.ensures.bytes)) ]
+    elim c.match-read.branch [
+      | in-Ok w ↦
+          let n = w.in-Ok.n in
+          let part = slice_range-put_mid from room n c.loop.out c.read.new.buf within (search rules) in
+          let joined = take_split from (from + n) c.loop.out (put_mid from room c.loop.out c.read.new.buf) (omega arith) (take-put_mid_below _ _ _ _ _ (le_refl _) within) in
+          subst (λ d. (length (put_mid from room c.loop.out c.read.new.buf) ≡ length c.args.out.now) × (d ≤ length (put_mid from room c.loop.out c.read.new.buf)) × Consumes (g.R.Read.remaining c.args.input.now) (g.R.Read.remaining c.read.new.self) (take d (put_mid from room c.loop.out c.read.new.buf)))
+          (sym w.done-is)
+          (search rules, search rules, subst (Consumes _ _) (ap (λ l. take from c.loop.out ++ l) (sym part) ∙ joined) (Consumes-trans _ _ _ _ _ c.loop.invariant.2 (search rules)))
+      | in-Err+else-ne w ↦
+          subst (λ d. (length (put_mid from room c.loop.out c.read.new.buf) ≡ length c.args.out.now) × (d ≤ length (put_mid from room c.loop.out c.read.new.buf)) × Consumes (g.R.Read.remaining c.args.input.now) (g.R.Read.remaining c.read.new.self) (take d (put_mid from room c.loop.out c.read.new.buf)))
+          (sym w.done-is)
+          (search rules, search rules, subst (Consumes _ _) (sym (take-put_mid_below _ _ _ _ _ (le_refl _) within)) (Consumes-kept _ _ _ _ c.loop.invariant.2 w.in-Err.ensures.bytes))
+    ]
