@@ -1,11 +1,11 @@
 -- The marks of the values of a capture, as its symbols are passed. Assumes nothing.
-use mathlib.Core.Path.{◌≡◌, refl, ap, sym, ◌∙◌}
+use mathlib.Core.Path.{◌≡◌, ap, sym, ◌∙◌}
 use mathlib.Core.List.{List, [], ◌∷◌, ◌++◌}
 use Prim.Native.Nat.{ℕ, ◌+◌, ◌≤◌, ◌<◌}
 use native.Mathlib.Nat.{lt_of_not-le}
 use native.Mathlib.Decide.{dec_le}
 use native.Mathlib.Omega.{arith}
-use lib.ListN.{get_or-eq_default, length, get_or, set, take, replicate}
+use lib.ListN.{get_or-eq_default, get_or, set, take, replicate}
 use lib.Seq.{set-get_or}
 use Rattle.capture.specs.Bits.{one}
 use Rattle.alphabet.specs.Alphabet.{has}

@@ -9,6 +9,7 @@ ghost use Rattle.marks.specs.Inner.Marks.{mark_in, sum_below};
 use alphabet::symbol;
 
 // Marks four values. Most turns find them all marked, and reading is cheaper than writing.
+#[tactic(auto, using(crate::proofs::Marking::four_le, crate::proofs::Marking::four_seen))]
 fn mark_values(marks: &mut [u8; 256], a: usize, b: usize, c: usize, d: usize)
     requires { (a < 256) × (b < 256) × (c < 256) × (d < 256) × ((v : ℕ) → get_or marks.old v 0 ≤ 1) }
     ensures { marks.new ≡ set (set (set (set marks.old a 1) b 1) c 1) d 1 }
