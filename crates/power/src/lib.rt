@@ -5,6 +5,7 @@ ghost use Rattle.std.specs.Prelude.{◌≡◌};
 ghost use Rattle.power.specs.Power.{power_of, times_power};
 
 // y * x ^ n: x goes into the product where n is odd, and then the square of x to half of n. Each product is rounded.
+#[tactic(auto, using(crate::proofs::Halves::times_none, crate::proofs::Halves::times_odd, crate::proofs::Halves::times_even))]
 fn times_power(y: f64, x: f64, n: u64) -> f64
     ensures { result ≡ times_power y x n }
 {
