@@ -11,9 +11,6 @@ use Rattle.dense.proofs.number_by_sight.Goals as goal
 pub loop-i-init : goal.loop-i-init
 loop-i-init c = (omega arith, refl, entered_start, refl)
 
-pub symbol-x-requires : goal.symbol-x-requires
-symbol-x-requires c = c.loop-i-test.true
-
 pub enter-next-requires : goal.enter-next-requires
 enter-next-requires c = (c.symbol-x.ensures.small, entered_le c.loop-i.invariant.2)
 
