@@ -37,6 +37,8 @@ ln_of_negative x h = elim (negative_only x h) [ inl e ↦ ap ln_of e | inr w ↦
 -- finite and above zero
 ln_of_units : (x : Float) (n : ℕ) → 0 < n → HasValue x false n (2 ^ 1074) → ln_of x ≡ ln_units n
 unfolding ln_of
+ln_of_units nan n h v = elim v [ ]
+ln_of_units (inf _) n h v = elim v [ ]
 ln_of_units (fin true m e) n h v = absurd (true≢false v.0)
 ln_of_units (fin false zero e) n h v = absurd (some_units e n (2 ^ 1074) h v.1)
 ln_of_units (fin false (suc m) e) n h v = ap ln_units (ap (λ (z : ℕ). z / down e) v.1 ∙ mul-div_cancel n (down_pos e))
