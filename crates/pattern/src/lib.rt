@@ -17,6 +17,7 @@ pub fn bits_of(x: f64) -> u64
 }
 
 // The double of a pattern.
+#[tactic(auto, using(crate::proofs::Nans::nan_read, crate::proofs::Nans::no_nan_read))]
 pub fn double_of(bits: u64) -> f64
     ensures { result ≡ of_bits binary64 bits }
 {
