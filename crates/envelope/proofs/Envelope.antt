@@ -1,11 +1,11 @@
 -- Records over any kind and any fields: the numbers of a record that was written are read again, and a record that was read is written again byte for byte.
 -- By induction on the fields, each by the laws of Little. Assumes nothing.
 use mathlib.Core.Path.{◌≡◌, refl, sym, ap, ◌∙◌}
-use mathlib.Core.Bool.{Bool, true, ◌&&◌, and-eq-true_iff}
+use mathlib.Core.Bool.{Bool, true, false, ◌&&◌, and-eq-true_iff}
 use mathlib.Core.List.{List, [], ◌∷◌, ◌++◌, append_assoc, map}
 use Prim.Native.Nat.{ℕ, zero, suc, ◌+◌, ◌^◌, ◌≤◌, ◌<◌}
 use native.Mathlib.Omega.{arith}
-use borrow.Author.Tests.{eq-eqb, eqb-true, le-leb, leb-true}
+use borrow.Author.Tests.{eq-eqb, eqb-true, le-leb, lt-leb, leb-true}
 use lib.Dec.{leb, eqb}
 use lib.ListN.{length, get_or, take, drop, length-append}
 use lib.Seq.{take-add, drop-drop}
@@ -132,6 +132,11 @@ is_framed kind behind bytes f = three (le-leb _ _ f.whole) (eq-eqb _ _ f.long) (
 
 pub framed_long : (kind behind : ℕ) (bytes : List ℕ) → framed kind behind bytes ≡ true → length_bytes + behind ≤ length bytes
 framed_long kind behind bytes h = (framed_is kind behind bytes h).whole
+
+-- past the end of the input there is none
+pub framed_short : (kind behind : ℕ) (bytes : List ℕ) → length bytes < length_bytes + behind → framed kind behind bytes ≡ false
+unfolding framed
+framed_short kind behind bytes h = simp (lt-leb _ _ h)
 
 -- ---- a record that was written, whatever follows it
 head_length : (kind behind : ℕ) → length (little length_bytes behind ++ little kind_bytes kind) ≡ body_start

@@ -51,6 +51,7 @@ pub fn put_head(out: &mut [u8], kind: u64, following: u64)
 
 // Whether a whole record of a kind stands at the start, with `following` bytes behind its length field. No length field
 // makes it look past the slice.
+#[tactic(auto, using(crate::proofs::Envelope::framed_short))]
 pub fn is_framed(bytes: &[u8], kind: u64, following: u64) -> bool
     requires { kind_bytes ≤ following }
     ensures { result ≡ framed kind following bytes.now }

@@ -5,17 +5,11 @@ use native.Mathlib.Nat.{add-zero}
 use native.Mathlib.Omega.{arith}
 use mathlib.Core.Path.{◌≡◌, refl, sym, ap, ◌∙◌}
 use mathlib.Core.List.{List}
-use lib.ListN.{length, set, length-set}
+use lib.ListN.{set, length-set}
 use lib.Seq.{sets}
 use Rattle.envelope.specs.Little.{little}
-use Rattle.envelope.proofs.put_number.Statement.{statement}
-use Rattle.envelope.proofs.put_number.Tie as tie
-
--- the bytes of the rest, stored from place at + i on, are all that is left to do
-record Left (out₀ : List ℕ) (at width number : ℕ) (out : List ℕ) (rest i : ℕ) : Type 0 where
-  few : i ≤ width
-  long : length out ≡ length out₀
-  whole : sets out (at + i) (little (width - i) rest) ≡ sets out₀ at (little width number)
+use Rattle.envelope.proofs.put_number.Invariants.{Left}
+use Rattle.envelope.proofs.put_number.Goals as goal
 
 none-stored : (out : List ℕ) (at width number : ℕ) → Left out at width number out number 0
 none-stored out at width number =
@@ -48,33 +42,17 @@ ended {out₀} {at} {width} {number} {out} {rest} {i} h l =
     let e : width - i ≡ 0 = omega arith in
     sym (ap (λ (k : ℕ). sets out (at + i) (little k rest)) e) ∙ l.whole
 
-abbrev invariant-loop : tie.invariant-loop
-invariant-loop out₀ at width number rest₀ i₀ out rest i = Left out₀ at width number out rest i
+pub loop-i-init : goal.loop-i-init
+loop-i-init c = none-stored c.args.out.now c.args.at c.args.width c.args.number
 
-abbrev decreases-loop : tie.decreases-loop
-decreases-loop out₀ at width number rest₀ i₀ out rest i = width - i
+pub bounds-out-at : goal.bounds-out-at
+bounds-out-at c = omega (arith, c.loop-i.invariant.long)
 
-loop-holds : tie.Need-loop-init invariant-loop decreases-loop
-loop-holds c = none-stored c.args.out.now c.args.at c.args.width c.args.number
+pub loop-i-preserved : goal.loop-i-preserved
+loop-i-preserved c = stored (omega arith) c.loop-i.invariant
 
-cast-out : tie.Need-overflow-cast-out invariant-loop decreases-loop
-cast-out c = omega arith
+pub shape_of-out : goal.shape_of-out
+shape_of-out c = c.loop-i.invariant.long
 
-add-out : tie.Need-overflow-add-out invariant-loop decreases-loop
-add-out c = omega arith
-
-slice-write-out : tie.Need-slice-write-out invariant-loop decreases-loop
-slice-write-out c = omega (arith, c.before.loop.invariant.long)
-
-loop-again : tie.Need-loop-preserved invariant-loop decreases-loop
-loop-again c = stored (omega arith) c.before.loop.invariant
-
-same_length : tie.Need-same-length invariant-loop decreases-loop
-same_length c = c.before.loop.invariant.long
-
-returns : tie.Need-returns invariant-loop decreases-loop
-returns c = ended (omega arith) c.before.loop.invariant
-
-pub put-number-spec : {M : Type 1} → statement M
-put-number-spec =
-    tie.close (tie.spec invariant-loop decreases-loop loop-holds cast-out add-out slice-write-out (λ c. omega arith) (λ c. omega arith) loop-again same_length returns)
+pub returns : goal.returns
+returns c = ended (omega arith) c.loop-i.invariant
