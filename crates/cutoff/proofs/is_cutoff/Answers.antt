@@ -1,6 +1,5 @@
 -- `cutoff::is_cutoff` meets its contract: a cutoff of any entry is that of the first entry whose cutoff is no larger, since rounding up three times is rounding
 -- up once. That entry is no later, so it is in the table where the other is. Assumes nothing.
-use borrow.Author.Rules.{rules}
 use borrow.Author.Tests.{lt-ltb, ltb-true}
 use mathlib.Core.Path.{◌≡◌, sym, subst}
 use mathlib.Core.Bool.{Bool, true, false, false≢true}
@@ -10,8 +9,7 @@ use native.Mathlib.Omega.{arith}
 use lib.Dec.{lit<, ltb}
 use Rattle.cutoff.specs.Cutoff.{Entry, entries, spread}
 use Rattle.cutoff.proofs.Entries.{cutoff_above, first_entry_from, first_entry_has, first_entry_is, first_entry_to, first_entry_under, first_entry}
-use Rattle.cutoff.proofs.is_cutoff.Statement.{statement}
-use Rattle.cutoff.proofs.is_cutoff.Tie as tie
+use Rattle.cutoff.proofs.is_cutoff.Goals as goal
 
 abbrev Says : ℕ → Bool → Type 0
 Says n b = (b ≡ true → Entry n) × (Entry n → b ≡ true)
@@ -32,39 +30,24 @@ tested n f h e to =
       λ a. lt-ltb (first_entry n * (n - 2)) spread (first_entry_under n h (first_entry_is n a)),
     )
 
-returns : tie.Need-returns
-returns c = refused c.before.args.n (λ e. omega (arith, cutoff_above e.j e.from e.to, e.is))
-
-sub-rounded-up : tie.Need-overflow-sub-rounded-up
-sub-rounded-up c = search rules
-
-rounded-up-requires : tie.Need-rounded-up-requires
-rounded-up-requires c κs = search rules
-
-returns-2 : tie.Need-returns-2
-unfolding entries spread
-returns-2 c =
-    let n = c.before.before.before.args.n in
-    refused n (λ e. not-le_of_lt (subst (λ (z : ℕ). entries < z) c.before.rounded-up.ensures (omega arith)) (first_entry_to n e))
-
-sub-result : tie.Need-overflow-sub-result
-sub-result c = search rules
-
 -- an entry times a 16-bit number
 small : (f m : ℕ) → f ≤ 512 → m ≤ 65535 → f * m < 2 ^ 64
 small f m h g = lt_of_le_of_lt (mul-le-mul h g) (lit< tt)
 
-mul-result : tie.Need-overflow-mul-result
-mul-result c =
-    let args = c.before.before.before in
-    record { fits = small c.before.rounded-up.result (args.args.n - 2) c.if2.false (omega (arith, args.ranges.n)) }
+pub returns-then-n-lt2 : goal.returns-then-n-lt2
+returns-then-n-lt2 c = refused c.args.n (λ e. omega (arith, cutoff_above e.j e.from e.to, e.is))
 
-returns-3 : tie.Need-returns-3
+pub returns-then-entry-gt-ENTRIES : goal.returns-then-entry-gt-ENTRIES
 unfolding entries spread
-returns-3 c =
-    tested c.before.before.before.args.n c.before.rounded-up.result (omega (arith, c.before.before.if1.false)) c.before.rounded-up.ensures c.if2.false
+returns-then-entry-gt-ENTRIES c =
+    let n = c.args.n in
+    refused n (λ e. not-le_of_lt (subst (λ (z : ℕ). entries < z) c.rounded_up-entry.ensures (omega arith)) (first_entry_to n e))
 
-pub is-cutoff-spec : {M : Type 1} → statement M
-is-cutoff-spec =
-    tie.close
-    (tie.spec returns sub-rounded-up rounded-up-requires returns-2 sub-result mul-result returns-3)
+pub overflow_mul-result : goal.overflow_mul-result
+overflow_mul-result c =
+    record { fits = small c.rounded_up-entry.result (c.args.n - 2) c.if-entry-gt-ENTRIES.false (omega (arith, c.ranges.n)) }
+
+pub returns : goal.returns
+unfolding entries spread
+returns c =
+    tested c.args.n c.rounded_up-entry.result (omega (arith, c.if-n-lt2.false)) c.rounded_up-entry.ensures c.if-entry-gt-ENTRIES.false
