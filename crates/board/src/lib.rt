@@ -152,6 +152,7 @@ fn all_ran(mcw_bits: Answer, mcw_literal: Answer, mmc_bits: Answer, mmc_literal:
 }
 
 // The figure's number: 7 for its width first of all, then a refusal's, then 5 for an entropy out of range, then 6 unless all four ran.
+#[tactic(auto, unfolding(crate::specs::Board::figure_number))]
 fn figure_number(
     mcw_bits: Answer,
     mcw_literal: Answer,
