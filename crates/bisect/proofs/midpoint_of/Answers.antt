@@ -2,12 +2,8 @@
 use mathlib.Core.Path.{refl}
 use lib.Ieee.{of_bits}
 use Rattle.bisect.specs.Bisection.{midpoint}
-use Rattle.bisect.proofs.midpoint_of.Statement.{statement}
-use Rattle.bisect.proofs.midpoint_of.Tie as tie
+use Rattle.bisect.proofs.midpoint_of.Goals as goal
 
-returns : tie.Need-returns
+pub returns : goal.returns
 unfolding midpoint of_bits
 returns c = refl
-
-pub midpoint-of-spec : {M : Type 1} → statement M
-midpoint-of-spec = tie.close (tie.spec returns)
