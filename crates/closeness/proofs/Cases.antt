@@ -9,7 +9,7 @@ use lib.Ieee.{Float, binary64, lt, eq, is_nan, to_bits}
 use Rattle.closeness.specs.Magnitude.{magnitude, is_infinite, is_negative}
 use Rattle.closeness.specs.Close.{few_apart, close_ordered, rel_epsilon_equal}
 
--- ---- fewApart, by the signs s and t that the code has
+-- ---- few_apart, by the signs s and t that the code has
 
 flip_true : (b : Bool) → not b ≡ true → b ≡ false
 flip_true true h = sym h
@@ -33,7 +33,7 @@ module _ (a b : Float) (max : ℕ) {s t : Bool} (d : s ≡ is_negative a) (e : t
 pub none_left : (p q max : ℕ) → q < p → true ≡ leb (q - p) max
 none_left p q max h = sym (le-leb (q - p) max (omega arith))
 
--- ---- relEpsilonEqual
+-- ---- rel_epsilon_equal
 
 -- numbers that differ and are finite
 pub record Apart (a b : Float) : Type 0 where

@@ -1,5 +1,5 @@
 -- A quotient rounded up is the least number whose product with the divisor is enough: the first two laws say so, and the others follow from them alone.
--- So roundedUp a is its own partner in a Galois connection, and taking it three times is the same as taking it once. Assumes nothing.
+-- So rounded_up a is its own partner in a Galois connection, and taking it three times is the same as taking it once. Assumes nothing.
 use mathlib.Core.Path.{◌≡◌}
 use Prim.Native.Nat.{ℕ, ◌+◌, ◌-◌, ◌*◌, ◌≤◌, ◌<◌}
 use native.Mathlib.Nat.{le_refl, le_trans, le_of_eq, le_antisymm, lt_of_not-le, lt_of_lt_of_le, not-le_of_lt, mul_comm, mul-le-mul_left, mul-le-mul_right}

@@ -1,4 +1,4 @@
--- Doubling a double below 1 is exact: so `leading p` is 2 ^ wholeBits times p, from 1 to below 2. Assumes nothing.
+-- Doubling a double below 1 is exact: so `leading p` is 2 ^ whole_bits times p, from 1 to below 2. Assumes nothing.
 use mathlib.Core.Path.{◌≡◌, refl, sym, ap, ◌∙◌, subst}
 use Prim.Native.Nat.{ℕ, zero, suc, ◌+◌, ◌*◌, ◌^◌, ◌≤◌, ◌<◌}
 use native.Mathlib.Nat.{mul-one, mul_assoc, mul-le-mul_right, lt_of_mul-lt-mul_right, le_of_mul-le-mul_right, mul-lt-mul_of_pos_right, pow-suc, lt_of_lt_of_le}

@@ -25,7 +25,7 @@ doublings (suc n) x = cond (lt x one) (suc (doublings n (mul binary64 x two))) 0
 abbrev pub whole_bits : Float → ℕ
 whole_bits p = doublings 8 p
 
--- p / 2 ^ -wholeBits, from 1 to below 2
+-- p / 2 ^ -whole_bits, from 1 to below 2
 abbrev pub leading : Float → Float
 leading p = doubled_times (whole_bits p) p
 

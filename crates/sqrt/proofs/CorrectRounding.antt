@@ -1,4 +1,4 @@
--- `sqrt_of` is the square root rounded correctly. The patterns below that of the infinity are those of the doubles from 0 up, in order; `value_of_lem`
+-- `sqrt_of` is the square root rounded correctly. The patterns below that of the infinity are those of the doubles from 0 up, in order; `value_of`
 -- says what number `units_of` is.
 -- `correctly_rounded`: the root of a positive double is r smallest doubles, and for any other double, of a smallest doubles, the exact root √N is on
 -- r's side of the midpoint of r and a.
