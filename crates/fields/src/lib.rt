@@ -50,6 +50,7 @@ const WINNER: usize = 61;
 
 const SCORE: usize = 62;
 
+#[tactic(auto, unfolding(crate::specs::Fields::is_kind))]
 pub fn is_kind(kind: u64) -> bool
     ensures { result ≡ is_kind kind }
 {
@@ -98,6 +99,7 @@ fn put_double(out: &mut [u8], at: usize, x: f64)
     put_number(out, at, 8, bits_of(x));
 }
 
+#[tactic(auto, unfolding(envelope::specs::Envelope::body_size))]
 fn estimate_in(bytes: &[u8]) -> Estimate
     requires { record_size answer_fields ≤ length bytes.now }
     ensures { result ≡ (answer_of (values_at answer_fields body_start bytes.now)).estimate }
@@ -145,6 +147,7 @@ pub fn answer_in(bytes: &[u8], kind: u64) -> Answer
 }
 
 // Puts the number, k and the place of an answer.
+#[tactic(auto, unfolding(envelope::specs::Envelope::body_size))]
 fn put_numbers(out: &mut [u8], a: Answer)
     requires { record_size answer_fields ≤ length out.old }
     ensures { out.new ≡ sets out.old body_start (body_of (take 3 answer_fields) a) }
@@ -155,6 +158,7 @@ fn put_numbers(out: &mut [u8], a: Answer)
 }
 
 // Puts its three counts and the rounds.
+#[tactic(auto, unfolding(envelope::specs::Envelope::body_size))]
 fn put_counts(out: &mut [u8], a: Answer)
     requires { record_size answer_fields ≤ length out.old }
     ensures { out.new ≡ sets out.old 13 (body_of (take 4 (drop 3 answer_fields)) a) }
@@ -167,6 +171,7 @@ fn put_counts(out: &mut [u8], a: Answer)
 }
 
 // Puts its four doubles.
+#[tactic(auto, unfolding(envelope::specs::Envelope::body_size))]
 fn put_floats(out: &mut [u8], a: Answer)
     requires { record_size answer_fields ≤ length out.old }
     ensures { out.new ≡ sets out.old 29 (body_of (drop 7 answer_fields) a) }
@@ -189,6 +194,7 @@ fn put_shared(out: &mut [u8], a: Answer)
 }
 
 // Puts who predicted, behind them.
+#[tactic(auto, unfolding(envelope::specs::Envelope::body_size))]
 fn put_winner(out: &mut [u8], a: Answer)
     requires { record_size (answer_fields ++ winner_fields) ≤ length out.old }
     ensures { out.new ≡ sets out.old 61 (body_of winner_fields a) }
