@@ -35,6 +35,10 @@ first_none a b h = go (eqb a 0) refl h
 
 parted : (a b c d : Bool) → T (a && (b && (c && d))) → T a × T b × T c × T d
 parted true true true true t = (tt, tt, tt, tt)
+parted false b c d t = elim t [ ]
+parted true false c d t = elim t [ ]
+parted true true false d t = elim t [ ]
+parted true true true false t = elim t [ ]
 
 -- an estimate that ran is not refused
 unrefused : (a : Answer) → T (ran a) → refusal_of a.number ≡ 0

@@ -29,7 +29,7 @@ use Rattle.prediction.specs.Estimate.{estimate, estimated_of, estimate_of}
 use Rattle.race.specs.declared.Outcome.{Outcome}
 use Rattle.race.specs.Race.{event, events, hits, longest, predictions, scored, standing, stretch}
 use Rattle.rating.specs.Rating.{rating_of}
-use Rattle.small_captures.specs.SmallCaptures.{All, Right, Track, answer_of, mmc_bits_lem, mmc_literal_lem, more, none, rows}
+use Rattle.small_captures.specs.SmallCaptures.{All, Right, Track, answer_of, mmc_on_bits, mmc_on_literals, more, none, rows}
 
 -- what the answer of a race holds, where its counts can be
 pub record Holds (a : Answer) (c n run : ℕ) : Type 0 where
@@ -62,23 +62,23 @@ module _ (out space : List ℕ) (out-room : 6 ≤ length out) (room : storeSize 
   -- bits that are not refused
   bits_row : (b : List ℕ) (c n run : ℕ) → bits_number b 1 space ≡ 0 → (Bits.outcome_of levels cap (bits_of_capture b 1)).hits ≡ c
       → predictions first_place (bits_of_capture b 1) ≡ n → (Bits.outcome_of levels cap (bits_of_capture b 1)).longest ≡ run → impossible_counts c n run 2 ≡ false
-      → Right out space (record { track = mmc_bits_lem; samples = b; number = 0; c = c; n = n; run = run })
+      → Right out space (record { track = mmc_on_bits; samples = b; number = 0; c = c; n = n; run = run })
   unfolding mmc_bits bits_estimate
-  bits_row b c n run e p q l h = runs mmc_bits_lem b (Bits.outcome_of levels cap (bits_of_capture b 1)) (predictions first_place (bits_of_capture b 1)) 2 (rw e) p q l h
+  bits_row b c n run e p q l h = runs mmc_on_bits b (Bits.outcome_of levels cap (bits_of_capture b 1)) (predictions first_place (bits_of_capture b 1)) 2 (rw e) p q l h
 
   -- literals of at most two values, and of more
   two_row : (s : List ℕ) (c n run : ℕ) → literal_number s out space ≡ 0 → leb (distinct s) 2 ≡ true → (Bits.outcome_of levels cap (sorted s)).hits ≡ c
       → predictions first_place (sorted s) ≡ n → (Bits.outcome_of levels cap (sorted s)).longest ≡ run → impossible_counts c n run 2 ≡ false
-      → Right out space (record { track = mmc_literal_lem; samples = s; number = 0; c = c; n = n; run = run })
+      → Right out space (record { track = mmc_on_literals; samples = s; number = 0; c = c; n = n; run = run })
   unfolding mmc_literal literal_estimate bits_estimate
-  two_row s c n run e d p q l h = runs mmc_literal_lem s (Bits.outcome_of levels cap (sorted s)) (predictions first_place (sorted s)) 2 (rw (e, d)) p q l h
+  two_row s c n run e d p q l h = runs mmc_on_literals s (Bits.outcome_of levels cap (sorted s)) (predictions first_place (sorted s)) 2 (rw (e, d)) p q l h
 
   many_row : (s : List ℕ) (c n run : ℕ) → literal_number s out space ≡ 0 → leb (distinct s) 2 ≡ false → (Store.outcome_of levels cap (sorted s)).hits ≡ c
       → predictions first_place (sorted s) ≡ n → (Store.outcome_of levels cap (sorted s)).longest ≡ run → impossible_counts c n run (distinct s) ≡ false
-      → Right out space (record { track = mmc_literal_lem; samples = s; number = 0; c = c; n = n; run = run })
+      → Right out space (record { track = mmc_on_literals; samples = s; number = 0; c = c; n = n; run = run })
   unfolding mmc_literal literal_estimate store_estimate
   many_row s c n run e d p q l h =
-      runs mmc_literal_lem s (Store.outcome_of levels cap (sorted s)) (predictions first_place (sorted s)) (distinct s) (rw (e, d)) p q l h
+      runs mmc_on_literals s (Store.outcome_of levels cap (sorted s)) (predictions first_place (sorted s)) (distinct s) (rw (e, d)) p q l h
 
   -- work space is long enough
   bits_short : ltb (length space) (size levels) ≡ false
