@@ -5,7 +5,6 @@ use mathlib.Core.List.{List}
 use Prim.Native.Nat.{ℕ, zero, suc, ◌+◌, ◌-◌, ◌*◌, ◌^◌, ◌≤◌, ◌<◌}
 use native.Mathlib.Omega.{arith}
 use native.Mathlib.Nat.{zero-div}
-use lib.ListN.{length}
 use Rattle.race.specs.Race.{Verdict, hit, miss, none, hit_of, judge, sample, Standing, settle}
 use Rattle.race.specs.Inner.Held.{counter_limit, after, heard, heard_from, settled, silence, tallied, verdicts_on, Countable}
 use Rattle.race.specs.declared.Leader.{Leader}
