@@ -63,6 +63,7 @@ fn are_likelihoods(e: Estimate) -> bool
 }
 
 // Whether an answer of number 0 can be.
+#[tactic(auto, unfolding(crate::specs::Recordable::as_ran))]
 fn is_as_ran(a: Answer) -> bool
     ensures { result ≡ as_ran a }
 {
@@ -97,6 +98,7 @@ fn has_no_floats(e: Estimate) -> bool
 }
 
 // Whether the counts are 0 and the four floats -1.0.
+#[tactic(auto, unfolding(crate::specs::Recordable::blank))]
 fn is_blank(e: Estimate) -> bool
     ensures { result ≡ blank e }
 {
@@ -113,6 +115,7 @@ fn is_blank(e: Estimate) -> bool
 }
 
 // Whether the place is one of a capture, for number 3, and else 0.
+#[tactic(auto, unfolding(crate::specs::Recordable::placed, capture::specs::Limit::symbol_limit))]
 fn is_placed(number: u64, place: u64) -> bool
     ensures { result ≡ placed number place }
 {
@@ -123,6 +126,7 @@ fn is_placed(number: u64, place: u64) -> bool
 }
 
 // Whether the fields are those of a number other than 0.
+#[tactic(auto, unfolding(crate::specs::Recordable::as_refused))]
 fn is_as_refused(a: Answer) -> bool
     ensures { result ≡ as_refused a }
 {
@@ -140,6 +144,7 @@ fn is_as_refused(a: Answer) -> bool
 }
 
 // Whether a record may hold an answer; else it is number 9.
+#[tactic(auto, unfolding(crate::specs::Recordable::recordable))]
 pub fn is_recordable(a: Answer) -> bool
     ensures { result ≡ recordable a }
 {
@@ -153,6 +158,7 @@ pub fn is_recordable(a: Answer) -> bool
 }
 
 // Whether who predicted can be: where there is no winner there is no score, and an answer other than 0 has no winner.
+#[tactic(auto, unfolding(crate::specs::Recordable::won))]
 fn is_won(a: Answer) -> bool
     ensures { result ≡ won a }
 {
@@ -170,6 +176,7 @@ fn is_won(a: Answer) -> bool
 }
 
 // Whether a record may hold an answer that was read from it: who predicted is there just where the record tells it.
+#[tactic(auto, unfolding(crate::specs::Recordable::holdable))]
 pub fn is_readable(a: Answer, tells: bool) -> bool
     ensures { result ≡ holdable tells (held_as tells a) }
 {
@@ -183,6 +190,7 @@ pub fn is_readable(a: Answer, tells: bool) -> bool
 }
 
 // Whether a record that tells who predicted, or one that does not, may hold an answer; else it is number 9.
+#[tactic(auto, unfolding(crate::specs::Recordable::holdable))]
 pub fn is_holdable(held: Held, tells: bool) -> bool
     ensures { result ≡ holdable tells held }
 {
