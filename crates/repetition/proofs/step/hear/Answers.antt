@@ -1,6 +1,4 @@
 -- `step::hear` meets its contract. A state that no start and samples could have left is refused as it is; any other is counted on as Hearing says. Assumes nothing.
-use borrow.Author.Rules.{rules}
-use borrow.Author.Tests.{not-false, not-true}
 use mathlib.Core.Path.{◌≡◌, refl, sym, ◌∙◌, subst}
 use mathlib.Core.Bool.{Bool, true, false, cond, true≢false}
 use Prim.Native.Nat.{ℕ}
@@ -12,8 +10,7 @@ use Rattle.repetition.specs.Repetition.{Sampled}
 use Rattle.repetition.specs.Inner.Counted.{counted}
 use Rattle.repetition.specs.Inner.Started.{Started}
 use Rattle.repetition.proofs.Hearing.{sampled_of, unheard}
-use Rattle.repetition.proofs.step.hear.Statement.{statement}
-use Rattle.repetition.proofs.step.hear.Tie as tie
+use Rattle.repetition.proofs.step.hear.Goals as goal
 
 -- a bool as a number
 flag : (b : Bool) → cond b 1 0 ≡ bool_byte b
@@ -27,26 +24,14 @@ counts st x n h e =
     (subst (λ (a : ℕ). Sampled st x (record { number = done; alarm = a }) (record { cutoff = st.cutoff; last_sample = x; count = counted st x })) (flag (eqb (counted st x) st.cutoff))
     (sampled_of st x h))
 
-is-started-requires : tie.Need-is-started-requires
-is-started-requires c κs = search rules
+pub returns-then-not-is_started : goal.returns-then-not-is_started
+returns-then-not-is_started c =
+    let found = c.is_started in
+    unheard c.args.state c.args.sample
+    (λ h. true≢false (sym (found.ensures.1 h) ∙ c.if-not-is_started.true))
 
-returns : tie.Need-returns
+pub returns : goal.returns
 returns c =
-    let found = c.before.is-started in
-    unheard c.before.before.args.state c.before.before.args.sample
-    (λ h. true≢false (sym (found.ensures.1 h) ∙ not-true found.result c.if1.true))
-
-counted-with-requires : tie.Need-counted-with-requires
-counted-with-requires c κs = search rules
-
-cast-t9 : tie.Need-overflow-cast-t9
-cast-t9 c = search rules
-
-returns-2 : tie.Need-returns-2
-returns-2 c =
-    let found = c.before.before.is-started in
-    counts c.before.before.before.args.state c.before.before.before.args.sample c.counted-with.result
-    (found.ensures.0 (not-false found.result c.before.if1.false)) c.counted-with.ensures
-
-pub hear-spec : {M : Type 1} → statement M
-hear-spec = tie.close (tie.spec is-started-requires returns counted-with-requires cast-t9 returns-2)
+    let found = c.is_started in
+    counts c.args.state c.args.sample c.counted_with-count.result
+    (found.ensures.0 c.if-not-is_started.false) c.counted_with-count.ensures

@@ -1,5 +1,4 @@
 -- `step::begin` meets its contract. The cutoff's own number is the start's, and a start that is taken leaves what no samples leave. Assumes nothing.
-use borrow.Author.Rules.{rules}
 use mathlib.Core.Path.{◌≡◌, refl, sym, ap, ◌∙◌}
 use mathlib.Core.Bool.{Bool, true, false, cond}
 use mathlib.Core.List.{[]}
@@ -14,8 +13,7 @@ use Rattle.cutoff.proofs.Entries.{cutoff_small, entry_range}
 use Rattle.repetition.specs.declared.step.RepetitionTest.{RepetitionTest}
 use Rattle.repetition.specs.History.{cutoff_for, last_sample, left, run, since}
 use Rattle.repetition.specs.Repetition.{begin_number, begun}
-use Rattle.repetition.proofs.step.begin.Statement.{statement}
-use Rattle.repetition.proofs.step.begin.Tie as tie
+use Rattle.repetition.proofs.step.begin.Goals as goal
 
 abbrev Says : RepetitionTest → Float → ℕ → RepetitionTest → Type 0
 Says st h n st' = (n ≡ begin_number h) × (st' ≡ begun st h)
@@ -63,26 +61,20 @@ module _ (st : RepetitionTest) (h : Float) (f : Cutoff) (e : f ≡ cutoff_of h) 
       by true t = omega (arith, ap (λ (a : Cutoff). a.cutoff) (e ∙ found h true t), cutoff_small (entry_of h) (entry_range h t).0)
       by false t = omega (arith, ap (λ (a : Cutoff). a.cutoff) (e ∙ found h false t))
 
-cutoff-for-requires : tie.Need-cutoff-for-requires
-cutoff-for-requires c κs = search rules
+pub returns-then-found-ne-DONE : goal.returns-then-found-ne-DONE
+returns-then-found-ne-DONE c =
+    let f = c.cutoff_for-found in
+    let args = c.args in
+    refused args.before args.entropy f.result f.ensures c.if-found-ne-DONE.true
 
-returns : tie.Need-returns
-returns c =
-    let f = c.before.before.cutoff-for in
-    let args = c.before.before.before.args in
-    refused args.before args.entropy f.result f.ensures c.if1.true
-
-cast-t5 : tie.Need-overflow-cast-t5
-cast-t5 c =
-    let f = c.before.before.before.cutoff-for in
-    let args = c.before.before.before.before.args in
+pub overflow_cast-result : goal.overflow_cast-result
+overflow_cast-result c =
+    let f = c.cutoff_for-found in
+    let args = c.args in
     record { fits = small args.before args.entropy f.result f.ensures }
 
-returns-2 : tie.Need-returns-2
-returns-2 c =
-    let f = c.before.before.before.cutoff-for in
-    let args = c.before.before.before.before.args in
-    taken args.before args.entropy f.result f.ensures c.before.if1.false
-
-pub begin-spec : {M : Type 1} → statement M
-begin-spec = tie.close (tie.spec cutoff-for-requires returns cast-t5 returns-2)
+pub returns : goal.returns
+returns c =
+    let f = c.cutoff_for-found in
+    let args = c.args in
+    taken args.before args.entropy f.result f.ensures c.if-found-ne-DONE.false

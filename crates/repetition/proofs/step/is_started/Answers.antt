@@ -1,6 +1,5 @@
 -- `step::is_started` meets its contract. Its tests say of the fields what Histories says of a state that a start and samples could have left. Assumes nothing.
-use borrow.Author.Rules.{rules}
-use borrow.Author.Tests.{eq-eqb, eqb-true, le-leb, leb-true, not-false, not-true}
+use borrow.Author.Tests.{eq-eqb, eqb-true, le-leb, leb-true}
 use mathlib.Core.Path.{◌≡◌, sym, ◌∙◌}
 use mathlib.Core.Bool.{Bool, true, false, true≢false}
 use Prim.Native.Nat.{◌≤◌}
@@ -10,8 +9,7 @@ use Rattle.cutoff.specs.Cutoff.{Entry}
 use Rattle.repetition.specs.declared.step.RepetitionTest.{RepetitionTest}
 use Rattle.repetition.specs.Inner.Started.{Started}
 use Rattle.repetition.proofs.Histories.{Fields, fields_of_lem, started_of}
-use Rattle.repetition.proofs.step.is_started.Statement.{statement}
-use Rattle.repetition.proofs.step.is_started.Tie as tie
+use Rattle.repetition.proofs.step.is_started.Goals as goal
 
 abbrev Says : RepetitionTest → Bool → Type 0
 Says st b = (b ≡ true → Started st) × (Started st → b ≡ true)
@@ -32,28 +30,22 @@ counting st e w k = (
   λ h. le-leb st.last_sample 255 (omega (arith, (fields_of_lem st h).byte)),
 )
 
-is-cutoff-requires : tie.Need-is-cutoff-requires
-is-cutoff-requires c κs = search rules
+pub returns-then-not-is_cutoff : goal.returns-then-not-is_cutoff
+returns-then-not-is_cutoff c =
+    let found = c.is_cutoff in
+    no c.args.state (λ f. true≢false (sym (found.ensures.1 f.entry) ∙ c.if-not-is_cutoff.true))
 
-returns : tie.Need-returns
+pub returns-then-state : goal.returns-then-state
+returns-then-state c = no c.args.state (λ f. omega (arith, f.within, c.if-state.true))
+
+pub returns-then-state-eq0 : goal.returns-then-state-eq0
+returns-then-state-eq0 c =
+    let found = c.is_cutoff in
+    blank c.args.state
+    (found.ensures.0 c.if-not-is_cutoff.false) c.if-state.false c.if-state-eq0.true
+
+pub returns : goal.returns
 returns c =
-    let found = c.before.is-cutoff in
-    no c.before.before.args.state (λ f. true≢false (sym (found.ensures.1 f.entry) ∙ not-true found.result c.if1.true))
-
-returns-2 : tie.Need-returns-2
-returns-2 c = no c.before.before.before.before.args.state (λ f. omega (arith, f.within, c.if2.true))
-
-returns-3 : tie.Need-returns-3
-returns-3 c =
-    let found = c.before.before.before.before.before.before.is-cutoff in
-    blank c.before.before.before.before.before.before.before.args.state
-    (found.ensures.0 (not-false found.result c.before.before.before.before.before.if1.false)) c.before.before.before.if2.false c.before.if3.true
-
-returns-4 : tie.Need-returns-4
-returns-4 c =
-    let found = c.before.before.before.before.before.before.is-cutoff in
-    counting c.before.before.before.before.before.before.before.args.state
-    (found.ensures.0 (not-false found.result c.before.before.before.before.before.if1.false)) c.before.before.before.if2.false c.before.if3.false
-
-pub is-started-spec : {M : Type 1} → statement M
-is-started-spec = tie.close (tie.spec is-cutoff-requires returns returns-2 returns-3 returns-4)
+    let found = c.is_cutoff in
+    counting c.args.state
+    (found.ensures.0 c.if-not-is_cutoff.false) c.if-state.false c.if-state-eq0.false
