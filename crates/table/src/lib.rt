@@ -66,6 +66,7 @@ fn add(m: &mut [u32], key: usize, slot: usize) -> usize
 }
 
 // The number of the entry with the key. Where it is missing the entry is made, if there is room, and else the number is 0.
+#[tactic(auto, using(crate::proofs::Laws::grown_there))]
 pub fn make(m: &mut [u32], key: usize) -> usize
     requires { Table m.old × (key < key_limit) }
     ensures { (m.new ≡ grown m.old key) × (result ≡ entry_of m.new key) }
