@@ -5,19 +5,32 @@ use crate::room::{Outcome, Room, outcome};
 use std::path::{Path, PathBuf};
 use std::process::Command;
 
-/// A repository with five crates under the two libraries, themselves among them, and one above. One
+/// The crates under the two libraries, themselves among them, each after those below it.
+const CRATES: [&str; 6] = [
+    "answer",
+    "capture",
+    "abutfern",
+    "cutoff",
+    "repetition",
+    "repetition_c",
+];
+
+/// A repository with six crates under the two libraries, themselves among them, and one above. One
 /// is under both.
 fn repository(name: &str) -> Room {
     let room = Room::new(name);
-    for folder in ["src", "specs", "proofs"] {
-        let folder = room.path("crates/answer").join(folder);
-        std::fs::create_dir_all(folder).expect("a folder can be made");
+    for name in CRATES {
+        for folder in ["src", "specs", "proofs"] {
+            let folder = room.path("crates").join(name).join(folder);
+            std::fs::create_dir_all(folder).expect("a folder can be made");
+        }
     }
     std::fs::create_dir(room.path("host")).expect("a folder can be made");
     room.file("host/prove", include_bytes!("../../prove"));
     room.file("crates/answer/src/lib.rt", b"one");
     let crates = "answer:\ncapture: answer\ncutoff: answer\nrepetition: answer cutoff\n\
-                  abutfern: answer capture io\nreport: abutfern\n";
+                  repetition_c staticlib: cutoff repetition\n\
+                  abutfern staticlib: answer capture check\nreport: capture\n";
     room.file("crates.txt", crates.as_bytes());
     room
 }
@@ -33,7 +46,7 @@ fn prove(room: &Room) -> Outcome {
     outcome(&mut prove)
 }
 
-/// What it says, and how many archives `rt` was asked for by then.
+/// What it says, and how many crates `rt` was asked for by then.
 fn said(room: &Room, status: i32) -> (String, usize) {
     let outcome = prove(room);
     assert_eq!((outcome.status, &*outcome.stdout), (status, ""));
@@ -42,29 +55,36 @@ fn said(room: &Room, status: i32) -> (String, usize) {
 }
 
 const PROVED: &str = "\
-abutfern: proving the libraries: 5 crates, some minutes; the next run does not prove again
-abutfern: answer proved (1 s), 4 of 5 crates left
-abutfern: capture proved (unchanged since it was last proved), 3 of 5 crates left
-abutfern: abutfern proved (its archive is made), 2 of 5 crates left
-abutfern: cutoff proved (unchanged since it was last proved), 1 of 5 crates left
-abutfern: repetition proved (its archive is made), 0 of 5 crates left
+abutfern: proving the libraries: 6 crates, some minutes; the next run does not prove again
+abutfern: answer proved, 5 of 6 crates left
+abutfern: capture proved, 4 of 6 crates left
+abutfern: abutfern proved, 3 of 6 crates left
+abutfern: cutoff proved, 2 of 6 crates left
+abutfern: repetition proved, 1 of 6 crates left
+abutfern: repetition_c proved, 0 of 6 crates left
 abutfern: the libraries are kept as host/target/proved/libabutfern.a and host/target/proved/librepetition.a
 ";
 
 #[test]
 fn the_proofs_are_told_and_not_done_again() {
     let room = repository("proofs");
-    assert_eq!(said(&room, 0), (PROVED.to_string(), 2));
-    assert_eq!(said(&room, 0), (String::new(), 2));
-    std::fs::remove_dir_all(room.path("target")).expect("what rt made can be removed");
+    assert_eq!(said(&room, 0), (PROVED.to_string(), 6));
+    assert_eq!(said(&room, 0), (String::new(), 6));
+    for name in CRATES {
+        let made = room.path("crates").join(name).join("out");
+        std::fs::remove_dir_all(made).expect("what rt made can be removed");
+    }
     room.file("crates/answer/src/lib.rt", b"one");
-    assert_eq!(said(&room, 0), (String::new(), 2));
+    assert_eq!(said(&room, 0), (String::new(), 6));
     room.file("crates/answer/src/lib.rt", b"two");
-    assert_eq!(said(&room, 0), (PROVED.to_string(), 4));
-    for (library, calls) in [("abutfern", 6), ("repetition", 8)] {
+    assert_eq!(said(&room, 0), (PROVED.to_string(), 12));
+    for (library, made_of, calls) in [
+        ("abutfern", "abutfern", 18),
+        ("repetition", "repetition_c", 24),
+    ] {
         let kept = kept(&room, library);
         let made = std::fs::read_to_string(&kept).ok();
-        assert_eq!(made, Some(format!("archive of {library}\n")));
+        assert_eq!(made, Some(format!("archive of {made_of}\n")));
         std::fs::remove_file(kept).expect("the archive can be removed");
         assert_eq!(said(&room, 0), (PROVED.to_string(), calls));
     }
@@ -78,10 +98,10 @@ fn kept(room: &Room, library: &str) -> PathBuf {
 #[test]
 fn what_is_not_proved_is_told_and_tried_again() {
     let room = repository("not-proved");
-    for (wrong, calls) in [("capture", 1), ("cutoff", 3)] {
+    for (wrong, calls) in [("capture", 2), ("cutoff", 6)] {
         room.file("wrong", wrong.as_bytes());
         let (stderr, called) = said(&room, 1);
-        let refused = format!("\nrt: {wrong} NOT PROVED (exit 1, 1 s)\n");
+        let refused = format!("\nfn {wrong}::number: not proved\n");
         assert!(stderr.contains(&refused), "{stderr}");
         assert_eq!((stderr.lines().last(), called), (Some(ALL), calls));
         for library in ["abutfern", "repetition"] {
@@ -89,7 +109,7 @@ fn what_is_not_proved_is_told_and_tried_again() {
         }
     }
     std::fs::remove_file(room.path("wrong")).expect("it can be removed");
-    assert_eq!(said(&room, 0), (PROVED.to_string(), 5));
+    assert_eq!(said(&room, 0), (PROVED.to_string(), 12));
 }
 
 const ALL: &str =
