@@ -1,0 +1,11 @@
+-- `mcw_translated` meets its contract. Two values numbered from 0 are bits as they are. Assumes nothing.
+use mathlib.Core.Path.{ap, ◌∙◌}
+use native.Mathlib.Omega.{arith}
+use Rattle.mcw_bits.specs.Mcw.{outcome_of}
+use Rattle.capture.proofs.Bitstring.{bits_narrow}
+use Rattle.multi_mcw.proofs.mcw_translated.Goals as goal
+
+pub returns-then-k-le2 : goal.returns-then-k-le2
+returns-then-k-le2 c =
+    let s = c.args.s.now in
+    c.mcw_bits.ensures ∙ ap outcome_of (bits_narrow s (λ i l. omega (arith, c.requires.1.below i l, c.if-k-le2.true)))
