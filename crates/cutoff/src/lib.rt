@@ -12,9 +12,6 @@ mod table;
 // How many cutoffs there are: one for each 1/64 bit, up to 8 bits.
 const ENTRIES: usize = 512;
 
-// The last entry that a cutoff is looked for at.
-const LAST: usize = ENTRIES;
-
 // The 20 bits of the false alarm probability, in 1/64 bit.
 const SPREAD: usize = 1280;
 
@@ -77,7 +74,7 @@ pub fn is_cutoff(n: u16) -> bool
         return false;
     }
     let entry = rounded_up(SPREAD, (n as usize) - 1);
-    if LAST < entry {
+    if ENTRIES < entry {
         return false;
     }
     entry * ((n as usize) - 2) < SPREAD

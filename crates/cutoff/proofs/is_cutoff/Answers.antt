@@ -37,17 +37,17 @@ small f m h g = lt_of_le_of_lt (mul-le-mul h g) (lit< tt)
 pub returns-then-n-lt2 : goal.returns-then-n-lt2
 returns-then-n-lt2 c = refused c.args.n (λ e. omega (arith, cutoff_above e.j e.from e.to, e.is))
 
-pub returns-then-entry-gt-LAST : goal.returns-then-entry-gt-LAST
+pub returns-then-entry-gt-ENTRIES : goal.returns-then-entry-gt-ENTRIES
 unfolding entries spread
-returns-then-entry-gt-LAST c =
+returns-then-entry-gt-ENTRIES c =
     let n = c.args.n in
     refused n (λ e. not-le_of_lt (subst (λ (z : ℕ). entries < z) c.rounded_up-entry.ensures (omega arith)) (first_entry_to n e))
 
 pub overflow_mul-result : goal.overflow_mul-result
 overflow_mul-result c =
-    record { fits = small c.rounded_up-entry.result (c.args.n - 2) c.if-entry-gt-LAST.false (omega (arith, c.ranges.n)) }
+    record { fits = small c.rounded_up-entry.result (c.args.n - 2) (omega arith) (omega (arith, c.ranges.n)) }
 
 pub returns : goal.returns
 unfolding entries spread
 returns c =
-    tested c.args.n c.rounded_up-entry.result (omega (arith, c.if-n-lt2.false)) c.rounded_up-entry.ensures c.if-entry-gt-LAST.false
+    tested c.args.n c.rounded_up-entry.result (omega (arith, c.if-n-lt2.false)) c.rounded_up-entry.ensures (omega arith)
