@@ -1,3 +1,4 @@
+-- The entry sought stays between `low` and `high`. The measure is the distance of the two.
 use Prim.Native.Nat.{◌+◌, ◌-◌, ◌≤◌, ◌<◌}
 use Rattle.cutoff.specs.Cutoff.{entries, entry_of}
 use Rattle.cutoff.proofs.entry_of.Given as goal
