@@ -6,8 +6,11 @@ use std::fs::File;
 use std::path::{Path, PathBuf};
 use std::process::Command;
 
-/// The crates that are made into archives.
+/// The archives' names.
 const LIBRARIES: [&str; 2] = ["abutfern", "repetition"];
+
+/// The crates that are made into archives.
+const CRATES: [&str; 2] = ["abutfern", "repetition_c"];
 
 /// Where the tests find the archives' paths.
 const LINKED: [&str; 2] = ["ABUTFERN_LINKED", "ABUTFERN_REPETITION_LINKED"];
@@ -107,10 +110,8 @@ fn for_arm(repository: &Path, kept: &Path) -> [PathBuf; 2] {
     let made_from = folder.join("sources");
     let found = std::fs::read_to_string(&made_from).unwrap_or_default();
     if found != sources || !own.iter().all(|archive| archive.is_file()) {
-        for (archive, library) in own.iter().zip(LIBRARIES) {
-            let mut rt = Command::new("rt");
-            rt.current_dir(repository).args(["staticlib", library]);
-            arm::make(rt, archive);
+        for (archive, name) in own.iter().zip(CRATES) {
+            arm::make(&repository.join("crates").join(name), archive);
         }
         write(&made_from, &sources);
     }

@@ -2,47 +2,56 @@
 //! hands to its clang is kept and compiled once more, by the same clang, for this machine.
 //!
 //! The toolchain is run from a folder of links to it, in which clang is a script that keeps the
-//! module. Only the exported functions know the calling convention; `for_arm` rewrites these. On
-//! x86-64 nothing of this is used.
+//! module; the commands themselves are copied, since they look for the toolchain where they stand.
+//! Only the exported functions know the calling convention; `for_arm` rewrites these. On x86-64
+//! nothing of this is used.
 
 use crate::{read, run, write};
 use std::os::unix::fs::{PermissionsExt, symlink};
 use std::path::{Path, PathBuf};
 use std::process::Command;
 
-/// Runs `rt staticlib` and writes the archive for Arm beside the one for x86-64.
-pub fn make(mut rt: Command, archive: &Path) {
+/// Runs `rt lib` in the folder of a crate and writes the archive for Arm beside the one for x86-64.
+pub fn make(crate_folder: &Path, archive: &Path) {
     let folder = archive.parent().expect("an archive stands in a folder");
     std::fs::create_dir_all(folder).expect("target/ can be written");
     let kit = kit();
-    let tools = kit.join("on/aarch64/toolchain/bin");
     let mirror = folder.join("kit");
     let module = archive.with_extension("bc");
     mirrored(&kit, &mirror, &module);
     let hint = "the library is proved and built by `rt`, of the Rattle toolchain";
-    run(rt.env("RATTLE_HOME", &mirror), hint);
-    compile(&tools, &module, archive);
+    let mut rt = Command::new(mirror.join("bin/rt"));
+    run(rt.arg("lib").current_dir(crate_folder), hint);
+    compile(&kit.join("toolchain/bin"), &module, archive);
 }
 
-/// The folder of the toolchain: `rt doc` prints the path of a file in its docs/.
+/// The folder of the toolchain: `rt doc` prints the path of a page that stands in it.
 fn kit() -> PathBuf {
     let output = Command::new("rt").arg("doc").output();
     let output = output.expect("`rt`, of the Rattle toolchain, is on the path");
-    let guide = PathBuf::from(String::from_utf8_lossy(&output.stdout).trim());
-    let folder = guide.parent().and_then(Path::parent);
+    let page = PathBuf::from(String::from_utf8_lossy(&output.stdout).trim());
+    let folder = page.parent();
     folder.expect("`rt doc` prints a path").to_path_buf()
 }
 
-/// A folder of links to the toolchain, but for clang, which keeps the module it is given.
+/// The files of the commands, which are copied.
+const COMMANDS: [&str; 2] = ["rt", "rtlib.py"];
+
+/// A folder of links to the toolchain, but for its commands and for clang, which keeps the module it
+/// is given.
 fn mirrored(kit: &Path, mirror: &Path, module: &Path) {
     let _ = std::fs::remove_dir_all(mirror);
-    linked(kit, mirror, "on");
-    linked(&kit.join("on"), &mirror.join("on"), "aarch64");
-    let (own, copy) = (kit.join("on/aarch64"), mirror.join("on/aarch64"));
-    linked(&own, &copy, "toolchain");
-    linked(&own.join("toolchain"), &copy.join("toolchain"), "bin");
-    let (own, copy) = (own.join("toolchain/bin"), copy.join("toolchain/bin"));
-    linked(&own, &copy, "clang");
+    linked(kit, mirror, &["bin", "toolchain"]);
+    let (own, copy) = (kit.join("bin"), mirror.join("bin"));
+    linked(&own, &copy, &COMMANDS);
+    for command in COMMANDS {
+        let copied = std::fs::copy(own.join(command), copy.join(command));
+        copied.expect("the toolchain can be read");
+    }
+    let (own, copy) = (kit.join("toolchain"), mirror.join("toolchain"));
+    linked(&own, &copy, &["bin"]);
+    let (own, copy) = (own.join("bin"), copy.join("bin"));
+    linked(&own, &copy, &["clang"]);
     let clang = copy.join("clang");
     let script = format!(
         "#!/bin/sh\n[ -f module.bc ] && cp module.bc '{}'\nexec '{}' \"$@\"\n",
@@ -55,15 +64,24 @@ fn mirrored(kit: &Path, mirror: &Path, module: &Path) {
 }
 
 /// A new folder with a link to everything of another but `without`.
-fn linked(folder: &Path, copy: &Path, without: &str) {
+fn linked(folder: &Path, copy: &Path, without: &[&str]) {
     std::fs::create_dir_all(copy).expect("target/ can be written");
     for entry in std::fs::read_dir(folder).expect("the toolchain can be read") {
         let name = entry.expect("the toolchain can be read").file_name();
-        if name != *without {
+        if !without.iter().any(|left| name == **left) {
             symlink(folder.join(&name), copy.join(&name)).expect("target/ can hold links");
         }
     }
 }
+
+/// What the toolchain asks of clang's passes, on any machine.
+const PASSES: [&str; 5] = [
+    "-no-trap-after-noreturn",
+    "-trap-unreachable",
+    "-disable-machine-licm",
+    "-disable-postra-machine-licm",
+    "-sink-common-insts=false",
+];
 
 /// Compiles the kept module for Arm as the toolchain does for x86-64, and archives it.
 fn compile(tools: &Path, module: &Path, archive: &Path) {
@@ -82,7 +100,15 @@ fn compile(tools: &Path, module: &Path, archive: &Path) {
     write(&text, &for_arm(&read(&text)));
     let mut compile = Command::new(tools.join("clang"));
     compile.args(["--target=aarch64-unknown-linux-gnu", "-O3", "-fPIC"]);
-    compile.args(["-ffp-contract=off", "-ffunction-sections", "-c", "-x", "ir"]);
+    compile.args([
+        "-ffp-contract=off",
+        "-ffunction-sections",
+        "-fdata-sections",
+    ]);
+    for pass in PASSES {
+        compile.args(["-mllvm", pass]);
+    }
+    compile.args(["-c", "-x", "ir"]);
     run(compile.arg(&text).arg("-o").arg(&object), hint);
     let _ = std::fs::remove_file(archive);
     let mut index = Command::new(tools.join("llvm-ar"));
@@ -101,7 +127,7 @@ fn for_arm(module: &str) -> String {
         if exported {
             text += &called_on_arm(line);
         } else {
-            text += &line.replace("\"target-cpu\"=\"x86-64\"", "");
+            text += &line.replace("\"target-cpu\"=\"x86-64-v2\"", "");
         }
         text.push('\n');
         exported &= line != "}";
@@ -112,9 +138,13 @@ fn for_arm(module: &str) -> String {
 /// A line of an exported function: a large result goes through the register for that, a number
 /// and a float come back as two words, a large argument is a pointer to the caller's copy.
 fn called_on_arm(line: &str) -> String {
-    let mut line = line
-        .replace("ret ptr %a0", "ret void")
-        .replace("{ i64, double }", "[2 x i64]");
+    let mut line = line.replace("ret ptr %a0", "ret void");
+    let gives = ["define ", "ret "]
+        .iter()
+        .any(|word| line.trim_start().starts_with(word));
+    if gives || line.contains(" = load { i64, double }") {
+        line = line.replace("{ i64, double }", "[2 x i64]");
+    }
     if let Some(large) = line.strip_prefix("define noundef ptr ") {
         let result = large.replacen("(ptr noundef %a0", "(ptr noundef sret(i64) %a0", 1);
         line = format!("define void {result}");
