@@ -1,0 +1,98 @@
+-- `multi_mmc::multi_mmc_literal` meets its contract. It is refused by the number of `literal_refusal`; else the race is over the rising numbers, which are
+-- bits where there are at most two. Assumes nothing.
+use mathlib.Core.Path.{◌≡◌, ap, ◌∙◌}
+use mathlib.Core.List.{List}
+use Prim.Native.Nat.{ℕ, ◌≤◌, ◌<◌}
+use native.Mathlib.Omega.{arith}
+use Rattle.alphabet.specs.Alphabet.{distinct, sorted}
+use Rattle.alphabet.proofs.Alphabets.{Bytes}
+use Rattle.mmc_bits.specs.Levels.{cap, levels}
+use Rattle.mmc_bits.specs.Space.{final}
+use Rattle.multi_mmc.specs.Tracks.{bits_estimate, store_estimate}
+use Rattle.multi_mmc.proofs.LiteralAnswers.{Taken, literal_refused, literal_taken, many_needed, many_ran, two_needed, two_ran}
+use Rattle.multi_mmc.proofs.Translated.{Translation, bits_are, size_is, source_is, taken_is, taken_length, written_is}
+use Rattle.multi_mmc.proofs.multi_mmc_literal.Goals as goal
+
+pub returns-then-number-ne-DONE : goal.returns-then-number-ne-DONE
+returns-then-number-ne-DONE c =
+    literal_refused c.args.symbols.now c.args.out.now c.args.space.now c.literal_refusal-number.ensures c.if-number-ne-DONE.true c.refused_as.ensures
+
+pub slice_bounds-samples-end : goal.slice_bounds-samples-end
+slice_bounds-samples-end c =
+    let done : c.literal_refusal-number.result ≡ 0 = c.if-number-ne-DONE.false in
+    let ran : Taken c.args.symbols.now c.args.out.now c.args.space.now = literal_taken _ _ _ c.literal_refusal-number.ensures done in
+    omega (arith, ran.room)
+
+pub slice_bounds-samples-end-2 : goal.slice_bounds-samples-end-2
+slice_bounds-samples-end-2 c =
+    let done : c.literal_refusal-number.result ≡ 0 = c.if-number-ne-DONE.false in
+    let ran : Taken c.args.symbols.now c.args.out.now c.args.space.now = literal_taken _ _ _ c.literal_refusal-number.ensures done in
+    let translation : Translation c.args.symbols.now c.args.out.now c.value_sorted_alphabet-alphabet.result c.value_sorted_alphabet-alphabet.new.out = record {
+      fits = ran.fits;
+      room = ran.room;
+      answers = c.value_sorted_alphabet-alphabet.ensures.0;
+      leaves = c.value_sorted_alphabet-alphabet.ensures.1;
+    } in
+    taken_length translation
+
+pub bits_estimate-requires : goal.bits_estimate-requires
+bits_estimate-requires c =
+    let done : c.literal_refusal-number.result ≡ 0 = c.if-number-ne-DONE.false in
+    let ran : Taken c.args.symbols.now c.args.out.now c.args.space.now = literal_taken _ _ _ c.literal_refusal-number.ensures done in
+    let translation : Translation c.args.symbols.now c.args.out.now c.value_sorted_alphabet-alphabet.result c.value_sorted_alphabet-alphabet.new.out = record {
+      fits = ran.fits;
+      room = ran.room;
+      answers = c.value_sorted_alphabet-alphabet.ensures.0;
+      leaves = c.value_sorted_alphabet-alphabet.ensures.1;
+    } in
+    let few : distinct c.args.symbols.now ≤ 2 = omega (arith, size_is translation, c.if-alphabet-le2.true) in
+    (ran.many, source_is translation, rw (two_needed c.args.symbols.now few) at ran.work)
+
+pub returns-then-alphabet-le2 : goal.returns-then-alphabet-le2
+returns-then-alphabet-le2 c =
+    let bytes : Bytes c.args.symbols.now = λ i l. omega (arith, c.type_inv.symbols i) in
+    let done : c.literal_refusal-number.result ≡ 0 = c.if-number-ne-DONE.false in
+    let ran : Taken c.args.symbols.now c.args.out.now c.args.space.now = literal_taken _ _ _ c.literal_refusal-number.ensures done in
+    let translation : Translation c.args.symbols.now c.args.out.now c.value_sorted_alphabet-alphabet.result c.value_sorted_alphabet-alphabet.new.out = record {
+      fits = ran.fits;
+      room = ran.room;
+      answers = c.value_sorted_alphabet-alphabet.ensures.0;
+      leaves = c.value_sorted_alphabet-alphabet.ensures.1;
+    } in
+    let few : distinct c.args.symbols.now ≤ 2 = omega (arith, size_is translation, c.if-alphabet-le2.true) in
+    let bits = bits_are translation bytes few in
+    two_ran c.args.symbols.now c.args.out.now c.args.space.now c.literal_refusal-number.ensures done (written_is translation) few
+    (c.bits_estimate.ensures.value ∙ ap bits_estimate bits)
+    (c.bits_estimate.ensures.counters_after ∙ ap (λ (b : List ℕ). final levels cap b c.args.space.now) bits)
+
+pub store_estimate-requires : goal.store_estimate-requires
+store_estimate-requires c =
+    let done : c.literal_refusal-number.result ≡ 0 = c.if-number-ne-DONE.false in
+    let ran : Taken c.args.symbols.now c.args.out.now c.args.space.now = literal_taken _ _ _ c.literal_refusal-number.ensures done in
+    let translation : Translation c.args.symbols.now c.args.out.now c.value_sorted_alphabet-alphabet.result c.value_sorted_alphabet-alphabet.new.out = record {
+      fits = ran.fits;
+      room = ran.room;
+      answers = c.value_sorted_alphabet-alphabet.ensures.0;
+      leaves = c.value_sorted_alphabet-alphabet.ensures.1;
+    } in
+    let more : 2 < distinct c.args.symbols.now = omega (arith, size_is translation, c.if-alphabet-le2.false) in
+    let t = ran in
+    let l = taken_length translation in
+    (rw l at t.many, rw l at t.fits, rw (many_needed c.args.symbols.now more) at t.work)
+
+pub returns : goal.returns
+returns c =
+    let done : c.literal_refusal-number.result ≡ 0 = c.if-number-ne-DONE.false in
+    let ran : Taken c.args.symbols.now c.args.out.now c.args.space.now = literal_taken _ _ _ c.literal_refusal-number.ensures done in
+    let translation : Translation c.args.symbols.now c.args.out.now c.value_sorted_alphabet-alphabet.result c.value_sorted_alphabet-alphabet.new.out = record {
+      fits = ran.fits;
+      room = ran.room;
+      answers = c.value_sorted_alphabet-alphabet.ensures.0;
+      leaves = c.value_sorted_alphabet-alphabet.ensures.1;
+    } in
+    let more : 2 < distinct c.args.symbols.now = omega (arith, size_is translation, c.if-alphabet-le2.false) in
+    many_ran c.args.symbols.now c.args.out.now c.args.space.now c.literal_refusal-number.ensures done (written_is translation) more
+    (c.store_estimate.ensures.value
+    ∙ ap (λ (s : List ℕ). store_estimate s c.value_sorted_alphabet-alphabet.result.size) (taken_is translation)
+    ∙ ap (store_estimate (sorted c.args.symbols.now)) (size_is translation))
+    c.store_estimate.ensures.space_after
