@@ -4,14 +4,12 @@ use mathlib.Core.Bool.{Bool, cond}
 use mathlib.Core.List.{List}
 use Prim.Native.Nat.{ℕ, ◌≤◌, ◌<◌}
 use lib.ListN.{length}
-use borrow.Author.Rules.{rules}
 use borrow.Author.Tests.{lt-ltb, le-ltb}
 use Rattle.answer.specs.Numbers.{too_long}
 use Rattle.answer.specs.Refused.{refused}
 use Rattle.multi_mcw.specs.Tracks.{mcw_literal, mcw_literal_output}
 use Rattle.mcw_report.specs.Report.{report_limit, report_of, report_output}
-use Rattle.mcw_report.proofs.reported.Statement.{statement}
-use Rattle.mcw_report.proofs.reported.Tie as tie
+use Rattle.mcw_report.proofs.reported.Goals as goal
 
 too_long_lem : (s out : List ℕ) → report_limit < length s → (refused too_long ≡ report_of s out) × (out ≡ report_output s out)
 unfolding report_of report_output
@@ -25,28 +23,14 @@ within s out h =
     let e = sym (le-ltb report_limit (length s) h) in
     (ap (λ (b : Bool). cond b (refused too_long) (mcw_literal s out)) e, ap (λ (b : Bool). cond b out (mcw_literal_output s out)) e)
 
-refused-as-requires : tie.Need-refused-as-requires
-refused-as-requires c κs = search rules
+pub returns-then-symbols-gt-REPORT_LIMIT : goal.returns-then-symbols-gt-REPORT_LIMIT
+returns-then-symbols-gt-REPORT_LIMIT c =
+    let a = c.args in
+    let w = too_long_lem a.symbols.now a.out.now c.if-symbols-gt-REPORT_LIMIT.true in
+    (c.refused_as.ensures ∙ w.0, w.1)
 
-returns : tie.Need-returns
+pub returns : goal.returns
 returns c =
-    let a = c.before.before.before.before.args in
-    let w = too_long_lem a.symbols.now a.out.now c.before.if1.true in
-    (c.IsRefused-as.ensures ∙ w.0, w.1)
-
-multi-mcw-literal-requires : tie.Need-multi-mcw-literal-requires
-multi-mcw-literal-requires c κs = search rules
-
-same_length : tie.Need-same-length
-same_length c = search rules
-
-returns-2 : tie.Need-returns-2
-returns-2 c =
-    let a = c.before.before.before.before.before.before.before.args in
-    let w = within a.symbols.now a.out.now c.before.before.before.before.if1.false in
-    (c.before.before.multi-mcw-literal.ensures.0 ∙ w.0, c.before.before.multi-mcw-literal.ensures.1 ∙ w.1)
-
-pub reported-spec : {M : Type 1} → statement M
-reported-spec =
-    tie.close
-    (tie.spec refused-as-requires returns multi-mcw-literal-requires same_length returns-2)
+    let a = c.args in
+    let w = within a.symbols.now a.out.now c.if-symbols-gt-REPORT_LIMIT.false in
+    (c.multi_mcw_literal.ensures.0 ∙ w.0, c.multi_mcw_literal.ensures.1 ∙ w.1)
