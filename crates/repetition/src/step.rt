@@ -74,6 +74,7 @@ pub fn is_started(state: RepetitionTest) -> bool
 }
 
 // How many equal samples end with this one, as far as the cutoff.
+#[tactic(auto, unfolding(crate::specs::Inner::Counted::counted))]
 fn counted_with(state: RepetitionTest, sample: u16) -> u16
     ensures { result ≡ counted state sample }
 {

@@ -42,10 +42,10 @@ pub returns-then-state-eq0 : goal.returns-then-state-eq0
 returns-then-state-eq0 c =
     let found = c.is_cutoff in
     blank c.args.state
-    (found.ensures.0 c.if-not-is_cutoff.false) c.if-state.false c.if-state-eq0.true
+    (found.ensures.0 c.if-not-is_cutoff.false) (omega arith) c.if-state-eq0.true
 
 pub returns : goal.returns
 returns c =
     let found = c.is_cutoff in
     counting c.args.state
-    (found.ensures.0 c.if-not-is_cutoff.false) c.if-state.false c.if-state-eq0.false
+    (found.ensures.0 c.if-not-is_cutoff.false) (omega arith) c.if-state-eq0.false
