@@ -51,7 +51,8 @@ pub fn multi_mmc_literal(symbols: &[u8], out: &mut [u8], space: &mut [u32]) -> A
     let n = symbols.len();
     let alphabet = value_sorted_alphabet(symbols, out);
     let samples = &out[..n];
-    if alphabet.size <= 2 {
+    let binary = alphabet.size <= 2;
+    if binary {
         return bits_estimate(samples, 1, n, space);
     }
     store_estimate(samples, alphabet.size, space)

@@ -45,11 +45,11 @@ bits_estimate-requires c =
       answers = c.value_sorted_alphabet-alphabet.ensures.0;
       leaves = c.value_sorted_alphabet-alphabet.ensures.1;
     } in
-    let few : distinct c.args.symbols.now ≤ 2 = omega (arith, size_is translation, c.if-alphabet-le2.true) in
+    let few : distinct c.args.symbols.now ≤ 2 = omega (arith, size_is translation, c.if-binary.true) in
     (ran.many, source_is translation, rw (two_needed c.args.symbols.now few) at ran.work)
 
-pub returns-then-alphabet-le2 : goal.returns-then-alphabet-le2
-returns-then-alphabet-le2 c =
+pub returns-then-binary : goal.returns-then-binary
+returns-then-binary c =
     let bytes : Bytes c.args.symbols.now = λ i l. omega (arith, c.type_inv.symbols i) in
     let done : c.literal_refusal-number.result ≡ 0 = c.if-number-ne-DONE.false in
     let ran : Taken c.args.symbols.now c.args.out.now c.args.space.now = literal_taken _ _ _ c.literal_refusal-number.ensures done in
@@ -59,7 +59,7 @@ returns-then-alphabet-le2 c =
       answers = c.value_sorted_alphabet-alphabet.ensures.0;
       leaves = c.value_sorted_alphabet-alphabet.ensures.1;
     } in
-    let few : distinct c.args.symbols.now ≤ 2 = omega (arith, size_is translation, c.if-alphabet-le2.true) in
+    let few : distinct c.args.symbols.now ≤ 2 = omega (arith, size_is translation, c.if-binary.true) in
     let bits = bits_are translation bytes few in
     two_ran c.args.symbols.now c.args.out.now c.args.space.now c.literal_refusal-number.ensures done (written_is translation) few
     (c.bits_estimate.ensures.value ∙ ap bits_estimate bits)
@@ -75,7 +75,7 @@ store_estimate-requires c =
       answers = c.value_sorted_alphabet-alphabet.ensures.0;
       leaves = c.value_sorted_alphabet-alphabet.ensures.1;
     } in
-    let more : 2 < distinct c.args.symbols.now = omega (arith, size_is translation, c.if-alphabet-le2.false) in
+    let more : 2 < distinct c.args.symbols.now = omega (arith, size_is translation, c.if-binary.false) in
     let t = ran in
     let l = taken_length translation in
     (rw l at t.many, rw l at t.fits, rw (many_needed c.args.symbols.now more) at t.work)
@@ -90,7 +90,7 @@ returns c =
       answers = c.value_sorted_alphabet-alphabet.ensures.0;
       leaves = c.value_sorted_alphabet-alphabet.ensures.1;
     } in
-    let more : 2 < distinct c.args.symbols.now = omega (arith, size_is translation, c.if-alphabet-le2.false) in
+    let more : 2 < distinct c.args.symbols.now = omega (arith, size_is translation, c.if-binary.false) in
     many_ran c.args.symbols.now c.args.out.now c.args.space.now c.literal_refusal-number.ensures done (written_is translation) more
     (c.store_estimate.ensures.value
     ∙ ap (λ (s : List ℕ). store_estimate s c.value_sorted_alphabet-alphabet.result.size) (taken_is translation)
