@@ -11,6 +11,7 @@ const CAP: usize = 100_000;
 
 // Whether level l + 1 counts a pair that it has counted n times, and its entry number then: "below the cap it adds one to the pair and one to the
 // entry number without asking whether the pair is new; at the cap nothing is counted".
+#[tactic(auto, using(crate::specs::Inner::Places::new_entry))]
 fn takes(entries: &mut [usize; 16], l: usize, found: bool, n: usize) -> bool
     requires { l < levels }
     ensures { Takes cap l found n entries.old entries.new result }

@@ -11,6 +11,7 @@ use crate::Context;
 use crate::tables::value_in;
 
 // The context c of level l + 1: a word of which nothing was counted is only a way to longer ones.
+#[tactic(auto, using(crate::proofs::Saying::answers_absent))]
 fn lookup(space: &[u32], l: usize, c: usize) -> Context
     requires { (length space.now ≡ store) × (l < tables_most) × (c ≤ room) }
     ensures { result ≡ context_of (T.value (part l space.now) bests c) }

@@ -26,25 +26,25 @@ make_in-p-requires c =
     let ready = c.requires.holds in (ready.held.long, (table-next _ ready.one).0, pair_table caps ready, key_fits caps ready)
 
 pub returns-then-p-eq0 : goal.returns-then-p-eq0
-returns-then-p-eq0 c = λ s i ready. through_none caps ready (looked caps ready c.if-carry-eq0.false c.make_in-p.ensures.changed c.make_in-p.ensures.value) c.if-p-eq0.true
+returns-then-p-eq0 c = λ s i ready. through_none caps ready (looked caps ready (λ z. omega arith) c.make_in-p.ensures.changed c.make_in-p.ensures.value) c.if-p-eq0.true
 
 pub value_in-n-requires : goal.value_in-n-requires
 value_in-n-requires c =
     let ready = c.requires.holds in
-    count_ready caps ready (looked caps ready c.if-carry-eq0.false c.make_in-p.ensures.changed c.make_in-p.ensures.value)
+    count_ready caps ready (looked caps ready (λ z. omega arith) c.make_in-p.ensures.changed c.make_in-p.ensures.value)
 
 pub returns-then-not-takes : goal.returns-then-not-takes
-returns-then-not-takes c = λ s i ready. through_left caps ready (looked caps ready c.if-carry-eq0.false c.make_in-p.ensures.changed c.make_in-p.ensures.value)
+returns-then-not-takes c = λ s i ready. through_left caps ready (looked caps ready (λ z. omega arith) c.make_in-p.ensures.changed c.make_in-p.ensures.value)
     c.value_in-n.ensures.0 c.takes.ensures c.if-not-takes.true
 
 pub tally-requires : goal.tally-requires
 tally-requires c =
     let ready = c.requires.holds in
-    tally_ready caps ready (looked caps ready c.if-carry-eq0.false c.make_in-p.ensures.changed c.make_in-p.ensures.value)
+    tally_ready caps ready (looked caps ready (λ z. omega arith) c.make_in-p.ensures.changed c.make_in-p.ensures.value)
     c.value_in-n.ensures.0
 
 pub returns : goal.returns
-returns c = λ s i ready. through_taken caps ready (looked caps ready c.if-carry-eq0.false c.make_in-p.ensures.changed c.make_in-p.ensures.value)
+returns c = λ s i ready. through_taken caps ready (looked caps ready (λ z. omega arith) c.make_in-p.ensures.changed c.make_in-p.ensures.value)
     c.value_in-n.ensures.0 c.if-p-eq0.false c.tally.ensures c.takes.ensures
     c.if-not-takes.false
 
