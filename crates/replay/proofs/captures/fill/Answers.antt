@@ -1,5 +1,5 @@
 -- `replay::captures::fill` is safe and ends: the state stays below the modulus, and the measure is what is left of the slice. Assumes nothing.
-use Rattle.std.proofs.Common.{◌≡◌, ◌-◌, ◌<◌, length, refl, arith, length-set}
+use Rattle.std.proofs.Common.{refl, arith, length-set}
 use Rattle.replay.proofs.captures.fill.Goals as goal
 
 pub loop-i-init : goal.loop-i-init
