@@ -5,6 +5,7 @@ ghost use Rattle.std.specs.Prelude.{◌≡◌};
 ghost use Rattle.answer.specs.Numbers.{given};
 ghost use Rattle.answer.specs.Predicted.{predicted_by};
 ghost use Rattle.answer.specs.Refused.{minus_one, refused, refused_at, refused_solved, refused_value};
+ghost use Rattle.answer.specs.Results.{number_of, place_of, refused_by};
 
 // The answer numbers of documents 01 and 02.
 pub const DONE: u64 = 0;
@@ -29,6 +30,51 @@ pub const BAD_ANSWER: u64 = 9;
 
 pub const BAD_STATE: u64 = 10;
 
+// Why there is no result. `TooWide` has the place of the symbol that is.
+#[derive(Clone, Copy, Debug, PartialEq, Eq)]
+pub enum Refusal {
+    TooLong,
+    TooShort,
+    TooWide(u64),
+    Impossible,
+    OutOfRange,
+    NotRun,
+    BadWidth,
+    BadFrame,
+    BadAnswer,
+    BadState,
+}
+
+impl Refusal {
+    // Its answer number.
+    pub fn number(self) -> u64
+        ensures { result ≡ number_of self }
+    {
+        match self {
+            Refusal::TooLong => TOO_LONG,
+            Refusal::TooShort => TOO_SHORT,
+            Refusal::TooWide(_) => TOO_WIDE,
+            Refusal::Impossible => IMPOSSIBLE,
+            Refusal::OutOfRange => OUT_OF_RANGE,
+            Refusal::NotRun => NOT_RUN,
+            Refusal::BadWidth => BAD_WIDTH,
+            Refusal::BadFrame => BAD_FRAME,
+            Refusal::BadAnswer => BAD_ANSWER,
+            Refusal::BadState => BAD_STATE,
+        }
+    }
+
+    // The place that it names, and 0 where it names none.
+    pub fn place(self) -> u64
+        ensures { result ≡ place_of self }
+    {
+        match self {
+            Refusal::TooWide(place) => place,
+            _ => 0,
+        }
+    }
+}
+
 // The shared estimate: C, N, the longest run, p_global, p_global', p_local and the min-entropy in bits per sample.
 #[repr(C)]
 #[derive(Clone, Copy)]
@@ -42,7 +88,30 @@ pub struct Estimate {
     pub min_entropy: f64,
 }
 
-// An estimator's answer. `place` is that of number 3, `k` the alphabet's size, `rounds` the bisection rounds begun, `winner` the sub-predictor
+// An estimate that was made: over an alphabet of k symbols, with the bisection rounds begun.
+#[derive(Clone, Copy)]
+pub struct Estimated {
+    pub k: u64,
+    pub rounds: u64,
+    pub estimate: Estimate,
+}
+
+// And who predicted: the sub-predictor that won, from 1, with its right predictions.
+#[derive(Clone, Copy)]
+pub struct Rated {
+    pub estimated: Estimated,
+    pub winner: u64,
+    pub score: u64,
+}
+
+// A float found by bisection, with the rounds begun.
+#[derive(Clone, Copy)]
+pub struct Solution {
+    pub rounds: u64,
+    pub value: f64,
+}
+
+// An estimator's answer, as C has it. `place` is that of number 3, `k` the alphabet's size, `rounds` the bisection rounds begun, `winner` the sub-predictor
 // that won, from 1, with `score` right predictions; 0 where there is none.
 #[repr(C)]
 #[derive(Clone, Copy)]
@@ -56,7 +125,7 @@ pub struct Answer {
     pub estimate: Estimate,
 }
 
-// One float, or a refusal.
+// One float, or a refusal, as C has it.
 #[repr(C)]
 #[derive(Clone, Copy)]
 pub struct Value {
@@ -64,7 +133,7 @@ pub struct Value {
     pub value: f64,
 }
 
-// A float found by bisection, with the rounds begun, or a refusal.
+// A float found by bisection, with the rounds begun, or a refusal, as C has it.
 #[repr(C)]
 #[derive(Clone, Copy)]
 pub struct Solved {
@@ -158,5 +227,116 @@ pub fn refused_solved(number: u64) -> Solved
         number,
         rounds: 0,
         value: no_value(),
+    }
+}
+
+// The answer of a refusal: every count 0, every float -1.0.
+fn refused_by(refusal: Refusal) -> Answer
+    ensures { result ≡ refused_by refusal }
+{
+    let none = no_value();
+    let estimate = Estimate {
+        c: 0,
+        n: 0,
+        max_run_len: 0,
+        p_global: none,
+        p_global_prime: none,
+        p_local: none,
+        min_entropy: none,
+    };
+    Answer {
+        number: refusal.number(),
+        place: refusal.place(),
+        k: 0,
+        rounds: 0,
+        winner: 0,
+        score: 0,
+        estimate,
+    }
+}
+
+impl From<Result<Estimated, Refusal>> for Answer {
+    ghost use Rattle.std.specs.Prelude.{◌≡◌};
+    ghost use Rattle.answer.specs.Results.{answer_of};
+
+    ghost from_gives = { λ found answer. answer ≡ answer_of found };
+
+    fn from(found: Result<Estimated, Refusal>) -> Answer {
+        match found {
+            Ok(e) => Answer {
+                number: DONE,
+                place: 0,
+                k: e.k,
+                rounds: e.rounds,
+                winner: 0,
+                score: 0,
+                estimate: e.estimate,
+            },
+            Err(refusal) => refused_by(refusal),
+        }
+    }
+}
+
+impl From<Result<Rated, Refusal>> for Answer {
+    ghost use Rattle.std.specs.Prelude.{◌≡◌};
+    ghost use Rattle.answer.specs.Results.{rated_answer};
+
+    ghost from_gives = { λ found answer. answer ≡ rated_answer found };
+
+    fn from(found: Result<Rated, Refusal>) -> Answer {
+        match found {
+            Ok(r) => Answer {
+                number: DONE,
+                place: 0,
+                k: r.estimated.k,
+                rounds: r.estimated.rounds,
+                winner: r.winner,
+                score: r.score,
+                estimate: r.estimated.estimate,
+            },
+            Err(refusal) => refused_by(refusal),
+        }
+    }
+}
+
+impl From<Result<f64, Refusal>> for Value {
+    ghost use Rattle.std.specs.Prelude.{◌≡◌};
+    ghost use Rattle.answer.specs.Results.{value_of};
+
+    ghost from_gives = { λ found value. value ≡ value_of found };
+
+    fn from(found: Result<f64, Refusal>) -> Value {
+        match found {
+            Ok(value) => Value {
+                number: DONE,
+                value,
+            },
+            Err(refusal) => Value {
+                number: refusal.number(),
+                value: no_value(),
+            },
+        }
+    }
+}
+
+impl From<Result<Solution, Refusal>> for Solved {
+    ghost use Rattle.std.specs.Prelude.{◌≡◌};
+    ghost use Rattle.answer.specs.Results.{solved_of};
+
+    ghost from_gives = { λ found solved. solved ≡ solved_of found };
+
+    fn from(found: Result<Solution, Refusal>) -> Solved {
+        match found {
+            Ok(s) => Solved {
+                number: DONE,
+                rounds: s.rounds,
+                value: s.value,
+            },
+            Err(refusal) => Solved {
+                number: refusal.number(),
+                rounds: 0,
+                value: no_value(),
+            },
+        }
     }
 }
