@@ -2,5 +2,6 @@ pub mod Bitstring
 pub mod Limits
 pub mod Reading
 pub mod Refusals
+pub mod Sources
 pub mod Walking
 pub mod Widest

@@ -3,6 +3,7 @@
 
 pub mod bits;
 pub mod refusal;
+pub mod source;
 
 // What the bit reader returns. `place` is that of number 3.
 #[repr(C)]

@@ -1,0 +1,12 @@
+-- `Source::len` meets its contract. There are `width` bits for each symbol. Assumes nothing.
+use mathlib.Core.Path.{sym}
+use native.Mathlib.Omega.{arith}
+use Rattle.capture.proofs.Limits.{bits_small}
+use Rattle.capture.proofs.Sources.{all_length}
+use Rattle.capture.proofs.source.Source.len.Goals as goal
+
+pub overflow_mul-result : goal.overflow_mul-result
+overflow_mul-result c = omega (arith, bits_small _ _ c.self.invariant.short c.self.invariant.narrow)
+
+pub returns : goal.returns
+returns c = rw (← c.self.view_is) (sym (all_length _ _))
