@@ -10,11 +10,6 @@ use lib.Seq.{drop-cons}
 use lib.Arith.{digits_lt}
 use Rattle.envelope.specs.Little.{little, number_at, Bytes}
 
--- the lowest byte comes last where a number is read from its top byte down
-pub number_up : (bytes : List ℕ) (at i : ℕ) → number_at bytes at (suc i) ≡ number_at bytes (suc at) i * 256 + get_or bytes at 0
-unfolding number_at
-number_up bytes at i = omega arith
-
 pub little_length : (w n : ℕ) → length (little w n) ≡ w
 unfolding little
 little_length zero n = refl

@@ -1,66 +1,62 @@
--- A number read from its highest byte down: after each byte the value is the number in the bytes from there on, so at the end it is the number in all of them.
--- A number of d bytes is below 2 ^ (8 * d), so eight fit a word. Assumes nothing.
-use Prim.Native.Nat.{ℕ, suc, ◌+◌, ◌-◌, ◌*◌, ◌^◌, ◌≤◌, ◌<◌}
-use native.Mathlib.Nat.{lt_of_lt_of_le}
+-- A number of at most eight bytes is the word that they make with zeros above them. By induction on its bytes, since a number is its lowest byte and 256
+-- times the rest. Assumes nothing.
+use mathlib.Core.Path.{◌≡◌, refl, sym, ap, ◌∙◌}
+use mathlib.Core.List.{List, ◌++◌}
+use Prim.Native.Nat.{ℕ, zero, suc, ◌+◌, ◌-◌, ◌≤◌, ◌<◌}
+use native.Mathlib.Nat.{add-zero, zero-add}
 use native.Mathlib.Omega.{arith}
-use mathlib.Core.Path.{◌≡◌, sym, ap, ◌∙◌, subst}
-use mathlib.Core.List.{List}
-use lib.ListN.{get_or}
-use lib.Pow.{pow-add, pow_mono}
+use borrow.Rule.Slice.PartMut.{put_mid}
+use lib.ListN.{length, get_or, take, drop, length-drop, get_or-append}
+use Rattle.std.proofs.Common.{replicate}
+use Rattle.std.proofs.lemmas.List.{length-take, get_or-append-add, get_or-take, get_or-drop}
+use Rattle.std.specs.Int.{w64, from_le_bytes}
 use Rattle.envelope.specs.Little.{number_at}
-use Rattle.envelope.proofs.Little.{number_up}
 
--- one byte more below a number
-grown : (v b d : ℕ) → v < 2 ^ (8 * d) → b < 256 → v * 256 + b < 2 ^ (8 * suc d)
-grown v b d h l =
-    let e : 8 * suc d ≡ 8 * d + 8 = omega arith in
-    let p : 2 ^ (8 * suc d) ≡ 2 ^ (8 * d) * 256 = ap (λ (k : ℕ). 2 ^ k) e ∙ pow-add 2 (8 * d) 8 in
-    omega (arith, p)
-
--- the bytes from place at + left on, up to at + width, are read into the value
-pub record Taken (bytes : List ℕ) (at width value left : ℕ) : Type 0 where
-  pub inside : left ≤ width
-  pub number : value ≡ number_at bytes (at + left) (width - left)
-  pub small : value < 2 ^ (8 * (width - left))
-
-pub none_taken : (bytes : List ℕ) (at width : ℕ) → Taken bytes at width 0 width
+-- a number of zeros
+nothing : (word : List ℕ) (at w : ℕ) → ((k : ℕ) → at ≤ k → get_or word k 0 ≡ 0) → number_at word at w ≡ 0
 unfolding number_at
-none_taken bytes at width =
-    let e : width - width ≡ 0 = omega arith in
-    record {
-      inside = omega arith;
-      number = sym (ap (number_at bytes (at + width)) e);
-      small = subst (λ (k : ℕ). 0 < 2 ^ (8 * k)) (sym e) (omega arith);
-    }
+nothing word at zero none = refl
+nothing word at (suc w) none = omega (arith, none at, nothing word (suc at) w (λ k h. none k (omega arith)))
 
-module _ (bytes : List ℕ) (at width value left : ℕ) (h : Taken bytes at width value left) where
-  pub all_taken : left ≡ 0 → value ≡ number_at bytes at width
-  all_taken e =
-      let p : at + left ≡ at = omega arith in
-      let q : width - left ≡ width = omega arith in
-      h.number ∙ ap (λ (k : ℕ). number_at bytes k (width - left)) p ∙ ap (number_at bytes at) q
+-- the bytes from a place on, and zeros above them
+padded : (word bytes : List ℕ) (i at w n : ℕ) → w ≤ n → ((k : ℕ) → k < w → get_or word (i + k) 0 ≡ get_or bytes (at + k) 0) →
+    ((k : ℕ) → i + w ≤ k → get_or word k 0 ≡ 0) → number_at word i n ≡ number_at bytes at w
+unfolding number_at
+padded word bytes i at zero n h same none = nothing word i n (λ k l. none k (omega arith))
+padded word bytes i at (suc w) zero h same none = absurd (omega arith)
+padded word bytes i at (suc w) (suc n) h same none =
+    let next : (k : ℕ) → k < w → get_or word (suc i + k) 0 ≡ get_or bytes (suc at + k) 0 =
+    λ k l. let p : suc i + k ≡ i + suc k = omega arith in let q : suc at + k ≡ at + suc k = omega arith in rw (p, q) (same (suc k) (omega arith)) in
+    let first : get_or word i 0 ≡ get_or bytes at 0 = ap (λ (k : ℕ). get_or word k 0) (sym (add-zero i)) ∙ same 0 (omega arith) ∙ ap (λ (k : ℕ). get_or bytes k 0) (add-zero at) in
+    omega (arith, first, padded word bytes (suc i) (suc at) w n (omega arith) next (λ k l. none k (omega arith)))
 
-  -- eight bytes fit a word
-  pub fits_word : (b : ℕ) → b < 256 → 0 < left → width ≤ 8 → value * 256 + b < 2 ^ 64
-  fits_word b byte some w =
-      let few : 8 * suc (width - left) ≤ 64 = omega (arith, h.inside) in
-      lt_of_lt_of_le (grown value b (width - left) h.small byte) (pow_mono few)
+eight_bytes : (word : List ℕ) → from_le_bytes w64 word ≡ number_at word 0 8
+unfolding number_at
+eight_bytes word = omega arith
 
-  module _ (some : 0 < left) {b : ℕ} (is : b ≡ get_or bytes (at + (left - 1)) 0) (byte : b < 256) where
-    one_more : width - (left - 1) ≡ suc (width - left)
-    one_more = omega (arith, h.inside)
+pub zeros_at : (n k : ℕ) → get_or {A = ℕ} (replicate n 0) k 0 ≡ 0
+zeros_at zero k = refl
+zeros_at (suc n) zero = refl
+zeros_at (suc n) (suc k) = zeros_at n k
 
-    next : suc (at + (left - 1)) ≡ at + left
-    next = omega arith
-
-    pub taken : Taken bytes at width (value * 256 + b) (left - 1)
-    taken =
-        record {
-          inside = omega (arith, h.inside);
-          number =
-              ap (λ (v : ℕ). v * 256 + b) (h.number ∙ ap (λ (k : ℕ). number_at bytes k (width - left)) (sym next))
-              ∙ ap (λ (x : ℕ). number_at bytes (suc (at + (left - 1))) (width - left) * 256 + x) is
-              ∙ sym (number_up bytes (at + (left - 1)) (width - left))
-              ∙ ap (number_at bytes (at + (left - 1))) (sym one_more);
-          small = subst (λ (k : ℕ). value * 256 + b < 2 ^ (8 * k)) (sym one_more) (grown value b (width - left) h.small byte);
-        }
+-- of a part of the bytes, put over zeros
+pub word_number : (bytes part zeros : List ℕ) (at w n : ℕ) → w ≤ 8 → at + w ≤ length bytes → n ≡ w → part ≡ take n (drop at bytes) →
+    ((k : ℕ) → get_or zeros k 0 ≡ 0) → from_le_bytes w64 (put_mid 0 w zeros part) ≡ number_at bytes at w
+word_number bytes part zeros at w n few fits e is none =
+    let long : length part ≡ w = omega (arith, ap length is, length-take n (drop at bytes), length-drop at bytes) in
+    let above = drop w zeros in
+    let same : (k : ℕ) → k < w → get_or (part ++ above) (0 + k) 0 ≡ get_or bytes (at + k) 0 =
+    λ k l.
+    ap (λ (i : ℕ). get_or (part ++ above) i 0) (zero-add k)
+    ∙ get_or-append part above 0 k (omega arith)
+    ∙ ap (λ (xs : List ℕ). get_or xs k 0) is
+    ∙ get_or-take n (drop at bytes) k 0 (omega arith)
+    ∙ get_or-drop at bytes k 0 in
+    let nothing_above : (k : ℕ) → 0 + w ≤ k → get_or (part ++ above) k 0 ≡ 0 =
+    λ k l.
+    let at_end : k ≡ length part + (k - w) = omega arith in
+    ap (λ (i : ℕ). get_or (part ++ above) i 0) at_end
+    ∙ get_or-append-add part above (k - w) 0
+    ∙ get_or-drop w zeros (k - w) 0
+    ∙ none (w + (k - w)) in
+    eight_bytes (part ++ above) ∙ padded (part ++ above) bytes 0 at w 8 few same nothing_above

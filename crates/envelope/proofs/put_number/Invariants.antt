@@ -1,21 +1,10 @@
--- What each turn of `envelope::put_number` keeps true. At each turn, storing the bytes of the rest from there on would give the whole, and at the end
--- none are left.
-use Prim.Native.Nat.{ℕ, ◌+◌, ◌-◌, ◌≤◌}
+-- What each turn of `envelope::put_number` keeps true: the bytes that are put and those of the rest are the whole.
+use Prim.Native.Nat.{◌-◌}
 use mathlib.Core.Path.{◌≡◌}
-use mathlib.Core.List.{List}
-use lib.ListN.{length}
-use lib.Seq.{sets}
+use mathlib.Core.List.{◌++◌}
+use lib.ListN.{take}
 use Rattle.envelope.specs.Little.{little}
 use Rattle.envelope.proofs.put_number.Given as goal
 
--- the bytes of the rest, stored from place at + i on, are all that is left to do
-pub record Left (out₀ : List ℕ) (at width number : ℕ) (out : List ℕ) (rest i : ℕ) : Type 0 where
-  pub few : i ≤ width
-  pub long : length out ≡ length out₀
-  pub whole : sets out (at + i) (little (width - i) rest) ≡ sets out₀ at (little width number)
-
-abbrev pub invariant-loop-i : goal.invariant-loop-i
-invariant-loop-i l = Left l.initial.out l.at l.width l.number l.out l.rest l.i
-
-abbrev pub decreases-loop-i : goal.decreases-loop-i
-decreases-loop-i l = l.width - l.i
+abbrev pub invariant-loop-byte : goal.invariant-loop-byte
+invariant-loop-byte l = take l.byte-index l.byte-items ++ little (l.width - l.byte-index) l.rest ≡ little l.width l.number
