@@ -2,6 +2,8 @@ pub mod Cases
 pub mod Trace
 pub mod Standing
 pub mod Held
+pub mod Leading
+pub mod Placing
 pub mod Step
 pub mod Ending
 pub mod Examples
