@@ -100,6 +100,17 @@ module _ (g : ℕ → Guess) (x : ℕ) (st : Standing) where
   unfolding scored
   scored_none j e = rw (add-one j, e)
 
+-- the same by verdicts
+pub settled_alike : (v v' : ℕ → Verdict) (st : Standing) (m : ℕ) → ((j : ℕ) → j < m → v j ≡ v' j) → settled v st m ≡ settled v' st m
+unfolding settled
+settled_alike v v' st zero e = refl
+settled_alike v v' st (suc m) e = rw (e m (omega arith), settled_alike v v' st m (λ j l. e j (omega arith)))
+
+pub settled_silent : (v : ℕ → Verdict) (st : Standing) (m : ℕ) → ((j : ℕ) → j < m → v j ≡ none) → settled v st m ≡ st
+unfolding settled
+settled_silent v st zero e = refl
+settled_silent v st (suc m) e = rw (e m (omega arith)) (settled_silent v st m (λ j l. e j (omega arith)))
+
 pub no_score : (m q : ℕ) → get_or (replicate {A = ℕ} m 0) q 0 ≡ 0
 no_score zero q = refl
 no_score (suc m) zero = refl

@@ -36,9 +36,13 @@ counted r g x = record { standing = r.standing; tally = tallied (judge (heard g)
 abbrev pub pointed : Raced → List (Option ℕ) → ℕ → Raced
 pointed r gs x = record { standing = settled (verdicts_on gs x) r.standing (length gs); tally = r.tally }
 
--- a whole place
+-- a whole place, by the verdicts v on m sub-predictors
+abbrev pub judged : ℕ → Raced → (ℕ → Verdict) → Raced
+judged m r v = record { standing = settled v r.standing m; tally = tallied (v r.standing.winner) r.tally }
+
+-- and by their guesses
 abbrev pub raced_on : Raced → List (Option ℕ) → ℕ → Raced
-raced_on r gs x = pointed (counted r (get_or gs r.standing.winner None) x) gs x
+raced_on r gs x = judged (length gs) r (verdicts_on gs x)
 
 -- the counts, the winner from 1, and its score
 abbrev pub outcome_in : Raced → Outcome
