@@ -17,8 +17,8 @@ use lib.Ieee.Scale.{round_same}
 use Rattle.sqrt.proofs.Roots.{four_pow, four_pos, sq_pow, sq_lt}
 use Rattle.sqrt.specs.Inner.Steps.{units_of}
 use Rattle.sqrt.proofs.Powers.{joined}
-use Rattle.sqrt.proofs.Patterns.{units_low, units_high}
-use Rattle.sqrt.proofs.Shift.{size_exact, shifted_fraction}
+use Rattle.sqrt.proofs.Patterns.{units_low, high_digits}
+use Rattle.sqrt.proofs.Shift.{size_exact, shifted_fraction, low_digits}
 use Rattle.rounding.specs.Doubles.{◌⊖◌, one}
 use Rattle.ln.specs.Ln.{series, places, ln_units}
 use Rattle.ln.specs.Inner.Steps.{ln_at}
@@ -131,18 +131,6 @@ module _ (n q place : ℕ) (lo : 2 ^ 52 ≤ q) (hi : q < 2 ^ 53) (e : n * 2 ^ 52
 
 -- ---- of a double above zero, by its pattern
 
--- the significand and the place of its leading one: of a subnormal, and of any other
-pub low_side : (b s : ℕ) → b / 2 ^ 52 ≡ 0 → s ≤ 52 → units_of b * 2 ^ 52 ≡ b % 2 ^ 52 * 2 ^ s * 2 ^ (52 - s)
-low_side b s z w =
-    let e : s + (52 - s) ≡ 52 = omega arith in
-    ap (λ (x : ℕ). x * 2 ^ 52) (units_low b z) ∙ sym (joined (b % 2 ^ 52) s (52 - s) 52 e)
-
-pub high_side : (b : ℕ) → (b / 2 ^ 52 ≡ 0 → ⊥) → units_of b * 2 ^ 52 ≡ (b % 2 ^ 52 + 2 ^ 52) * 2 ^ (b / 2 ^ 52 + 51)
-high_side b n =
-    let f = b / 2 ^ 52 in
-    let e : f - 1 + 52 ≡ f + 51 = omega arith in
-    ap (λ (x : ℕ). x * 2 ^ 52) (units_high b n) ∙ joined (b % 2 ^ 52 + 2 ^ 52) (f - 1) 52 (f + 51) e
-
 pub exact : (b : ℕ) → 0 < b → b < 0x7ff0_0000_0000_0000
     → HasValue (round binary64 false (units_of b) (2 ^ places (units_of b))) false (units_of b) (2 ^ places (units_of b))
 exact b p l = go (eqb (b / 2 ^ 52) 0) (eqb→eq (b / 2 ^ 52) 0) (λ t z. subst (λ (x : ℕ). T (not (eqb x 0))) z t)
@@ -150,10 +138,11 @@ exact b p l = go (eqb (b / 2 ^ 52) 0) (eqb→eq (b / 2 ^ 52) 0) (λ t z. subst (
     go : (t : Bool) → (T t → b / 2 ^ 52 ≡ 0) → (T (not t) → b / 2 ^ 52 ≡ 0 → ⊥)
         → HasValue (round binary64 false (units_of b) (2 ^ places (units_of b))) false (units_of b) (2 ^ places (units_of b))
     go true y m =
-        let s = 53 - size (b % 2 ^ 52) in
-        let w = shifted_fraction b s p (y tt) refl in
-        exact_fraction (units_of b) (b % 2 ^ 52 * 2 ^ s) (52 - s) w.1 w.2 (low_side b s (y tt) w.0)
-    go false y m = exact_fraction (units_of b) (b % 2 ^ 52 + 2 ^ 52) (b / 2 ^ 52 + 51) (omega arith) (omega arith) (high_side b (m tt))
+        let t = b % 2 ^ 52 in
+        let s = 53 - size t in
+        let w = shifted_fraction t s (omega (arith, y tt)) (omega arith) refl in
+        exact_fraction (units_of b) (t * 2 ^ s) (52 - s) w.1 w.2 (ap (λ (x : ℕ). x * 2 ^ 52) (units_low b (y tt)) ∙ low_digits t s w.0)
+    go false y m = exact_fraction (units_of b) (b % 2 ^ 52 + 2 ^ 52) (b / 2 ^ 52 + 51) (omega arith) (omega arith) (high_digits b (m tt))
 
 -- ---- the code's test: 6369051672525773 is the least q with q * q above 2 * 4 ^ 52
 

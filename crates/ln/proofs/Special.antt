@@ -1,5 +1,5 @@
 -- `ln_of` by cases: "minus infinity at 0 and not a number below 0", and above 0 by the number of smallest doubles. Assumes nothing.
-use mathlib.Core.Path.{◌≡◌, refl, ap, ◌∙◌}
+use mathlib.Core.Path.{◌≡◌, refl, sym, ap, ◌∙◌}
 use mathlib.Core.Logic.{inl, inr}
 use Prim.Native.Nat.{ℕ, zero, suc, ◌/◌, ◌^◌, ◌<◌}
 use native.Mathlib.Nat.{mul-div_cancel}
@@ -8,18 +8,16 @@ use lib.IntN.{ℤ}
 use lib.Ieee.{Float, nan, inf, fin, binary64, down, of_bits, eq, lt}
 use lib.Ieee.Fits.{down_pos}
 use lib.Ieee.Exact.{HasValue}
+use Rattle.std.specs.Float.{float_is_finite}
 use Rattle.sqrt.specs.Inner.Steps.{units_of}
-use Rattle.sqrt.proofs.AboveZero.{naught, zero_only, negative_only, some_units}
+use Rattle.sqrt.proofs.AboveZero.{naught, zero_only, negative_only, infinite_only, some_units}
 use Rattle.sqrt.proofs.Patterns.{value_of, units_pos}
 use Rattle.ln.specs.Ln.{ln_units, ln_of}
 
-pub ln_of_nan : ln_of nan ≡ nan
+-- what is not finite and not below zero
+pub ln_of_infinite : (x : Float) → lt x naught ≡ false → float_is_finite x ≡ false → x ≡ ln_of x
 unfolding ln_of
-ln_of_nan = refl
-
-pub ln_of_infinity : ln_of (inf false) ≡ inf false
-unfolding ln_of
-ln_of_infinity = refl
+ln_of_infinite x h k = elim (infinite_only x naught refl h k) [ inl e ↦ e ∙ sym (ap ln_of e) | inr e ↦ e ∙ sym (ap ln_of e) ]
 
 pub ln_of_zero : (s : Bool) (e : ℤ) → ln_of (fin s zero e) ≡ inf true
 unfolding ln_of

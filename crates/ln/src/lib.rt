@@ -5,12 +5,14 @@
 //   freely granted, provided that this notice is preserved.
 #![tactic(auto)]
 
-ghost use Rattle.std.specs.Prelude.{◌≡◌, ◌+◌, ◌*◌, ◌^◌, ◌≤◌, ◌<◌};
+ghost use Rattle.std.specs.Prelude.{◌≡◌, ◌≤◌, ◌<◌};
 ghost use Rattle.std.specs.Float.{binary64};
 ghost use Rattle.std.specs.Float.Ieee.{of_int, minus};
 ghost use Rattle.sqrt.specs.Inner.Steps.{units_of};
 ghost use Rattle.ln.specs.Ln as Ln;
 ghost use Rattle.ln.specs.Inner.Steps.{ln_at};
+
+use sqrt::significand::Significand;
 
 // The coefficients of fdlibm's polynomial.
 const LG1: f64 = 6.666666666666735130e-01;
@@ -52,7 +54,7 @@ fn series(k: f64, f: f64) -> f64
     s * (half_square + r) + k * LN2_LO - half_square + f + k * LN2_HI
 }
 
-// The exponent of 2 ^ place smallest doubles, 2 ^ -1074 each.
+// The exponent of 2^place smallest doubles, 2^-1074 each.
 fn exponent_of(place: u64) -> f64
     requires { place ≤ 3000 }
     ensures { result ≡ of_int binary64 (minus place 1074) }
@@ -60,13 +62,14 @@ fn exponent_of(place: u64) -> f64
     (place as i64 - 1074) as f64
 }
 
-// The logarithm of q / 2 ^ 52 times 2 ^ place smallest doubles. From √2 up, which is 6369051672525773 / 2 ^ 52 but for
-// less than 2 ^ -52, q / 2 ^ 52 is halved. 1022 and 1021 in the exponent's field, with the leading one of q added, are
-// those of numbers from 1 and from 1/2 up.
-fn reduced(q: u64, place: u64) -> f64
-    requires { (2 ^ 52 ≤ q) × (q < 2 ^ 53) × (place ≤ 2097) }
-    ensures { result ≡ ln_at q place }
+// The logarithm of digits / 2^52 times 2^place smallest doubles. From √2 up, which is 6369051672525773 / 2^52 but for
+// less than 2^-52, digits / 2^52 is halved. 1022 and 1021 in the exponent's field, with the leading one of the digits
+// added, are those of numbers from 1 and from 1/2 up.
+fn reduced(x: Significand) -> f64
+    ensures { result ≡ ln_at x.digits x.place }
 {
+    let q = x.digits;
+    let place = x.place;
     if q < 6369051672525773 {
         series(
             exponent_of(place),
@@ -80,38 +83,26 @@ fn reduced(q: u64, place: u64) -> f64
     }
 }
 
-// The logarithm of the finite number above 0 that has the pattern bits: q has its 53 digits, the leading one first, and
-// place is the place of that one among the smallest doubles.
+// The logarithm of the finite number above 0 that has the pattern bits.
 fn positive(bits: u64) -> f64
     requires { (0 < bits) × (bits < 0x7ff0_0000_0000_0000) }
     ensures { result ≡ Ln.ln_units (units_of bits) }
 {
-    let fraction = bits % 0x10_0000_0000_0000;
-    let exponent = bits / 0x10_0000_0000_0000;
-    if exponent == 0 {
-        let shift = sqrt::shift_of(fraction);
-        reduced(fraction << shift, 52 - shift)
-    } else {
-        reduced(fraction + 0x10_0000_0000_0000, exponent + 51)
-    }
+    reduced(Significand::of_pattern(bits))
 }
 
 // ln x.
 pub fn ln(x: f64) -> f64
     ensures { result ≡ Ln.ln_of x }
 {
-    if x != x {
-        return x;
+    if x < 0.0 {
+        return f64::NAN;
     }
     if x == 0.0 {
-        return f64::from_bits(0xfff0_0000_0000_0000);
+        return f64::NEG_INFINITY;
     }
-    if x < 0.0 {
-        return 0.0 / 0.0;
+    if !x.is_finite() {
+        return x; // not a number, or the infinity
     }
-    let bits = f64::to_bits(x);
-    if bits == 0x7ff0_0000_0000_0000 {
-        return x;
-    }
-    positive(bits)
+    positive(x.to_bits())
 }

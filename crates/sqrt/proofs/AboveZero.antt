@@ -1,5 +1,5 @@
 -- What the tests against 0 tell of a double: which are zeros, and which are below zero. Of the doubles, those that are no NaN, no zero and not below
--- zero, and whose pattern is not the infinity's, are finite and above zero: their patterns lie between
+-- zero, and not infinite, are finite and above zero: their patterns lie between
 -- that of 0 and that of the infinity. Assumes nothing.
 use mathlib.Core.Path.{◌≡◌, refl, sym, ap, ◌∙◌, subst}
 use Prim.Native.Nat.{ℕ, zero, suc, ◌+◌, ◌-◌, ◌*◌, ◌/◌, ◌%◌, ◌^◌, ◌≤◌, ◌<◌}
@@ -11,9 +11,9 @@ use mathlib.Core.Bool.{Bool, true, false, ◌&&◌, ◌||◌, beq, true≢false,
 use lib.IntN.{ℤ, pos}
 use lib.Dec.{T, ltb, eqb, leb, leb→le, ltb→lt, lt→ltb, eqb→eq}
 use lib.Pow.{pow-add, pow_pos}
-use lib.Ieee.{Float, nan, inf, fin, binary64, up, down, size, of_bits, to_bits, fits, ne, eq, lt}
-use lib.Ieee.Bits.{is_true, of_bits-to_bits}
-use lib.Ieee.Compare.{nan_differs}
+use lib.Ieee.{Float, nan, inf, fin, binary64, up, down, size, of_bits, to_bits, fits, eq, lt}
+use lib.Ieee.Bits.{is_true}
+use Rattle.std.specs.Float.{float_is_finite}
 use lib.Ieee.Digits.{size-le}
 use lib.Ieee.Fits.{up_pos, down_pos, and_l, and_r, kept-lt}
 
@@ -84,10 +84,6 @@ minus_infinity_below : lt (inf true) naught ≡ true
 unfolding lt
 minus_infinity_below = refl
 
-infinity_bits : to_bits binary64 (inf false) ≡ 0x7ff0_0000_0000_0000
-unfolding to_bits
-infinity_bits = refl
-
 -- ---- a number n of smallest doubles: the field and the digits that its pattern has
 
 abbrev pattern : ℕ → ℕ
@@ -143,21 +139,23 @@ finite_pattern m e h =
       pattern_lt n (count_lt (suc m * up e) (down e) (down_pos e) b),
     )
 
-pub positive_pattern : (x z : Float) → T (fits binary64 x) → z ≡ naught → ne x x ≡ false → eq x z ≡ false → lt x z ≡ false
-    → (to_bits binary64 x ≡ 0x7ff0_0000_0000_0000 → ⊥) → Between (to_bits binary64 x)
-positive_pattern nan z h o a b c d = absurd (true≢false (sym nan_differs ∙ a))
-positive_pattern (inf true) z h o a b c d = absurd (true≢false (sym minus_infinity_below ∙ ap (lt (inf true)) (sym o) ∙ c))
-positive_pattern (inf false) z h o a b c d = absurd (d infinity_bits)
-positive_pattern (fin s zero e) z h o a b c d = absurd (true≢false (sym (zero_equals s e) ∙ ap (eq (fin s zero e)) (sym o) ∙ b))
-positive_pattern (fin true (suc m) e) z h o a b c d = absurd (true≢false (sym (negative_below m e) ∙ ap (lt (fin true (suc m) e)) (sym o) ∙ c))
-positive_pattern (fin false (suc m) e) z h o a b c d = finite_pattern m e h
+-- z is the code's 0.0
+pub positive_pattern : (x z : Float) → T (fits binary64 x) → z ≡ naught → lt x z ≡ false → eq x z ≡ false → float_is_finite x ≡ true
+    → Between (to_bits binary64 x)
+unfolding float_is_finite
+positive_pattern nan z h o c b a = absurd (false≢true a)
+positive_pattern (inf s) z h o c b a = absurd (false≢true a)
+positive_pattern (fin s zero e) z h o c b a = absurd (true≢false (sym (zero_equals s e) ∙ ap (eq (fin s zero e)) (sym o) ∙ b))
+positive_pattern (fin true (suc m) e) z h o c b a = absurd (true≢false (sym (negative_below m e) ∙ ap (lt (fin true (suc m) e)) (sym o) ∙ c))
+positive_pattern (fin false (suc m) e) z h o c b a = finite_pattern m e h
 
--- a double with the infinity's pattern is the infinity
-pub infinity_only : (x : Float) → T (fits binary64 x) → to_bits binary64 x ≡ 0x7ff0_0000_0000_0000 → x ≡ inf false
-infinity_only x h e = sym (of_bits-to_bits binary64 x h) ∙ ap (of_bits binary64) e ∙ read
-  where
-    read : of_bits binary64 0x7ff0_0000_0000_0000 ≡ inf false
-    read = unfold of_bits in refl
+-- what is not finite and not below zero is a NaN or plus infinity
+pub infinite_only : (x z : Float) → z ≡ naught → lt x z ≡ false → float_is_finite x ≡ false → (x ≡ nan) ⊎ (x ≡ inf false)
+unfolding float_is_finite
+infinite_only nan z o c d = inl refl
+infinite_only (inf true) z o c d = absurd (true≢false (sym minus_infinity_below ∙ ap (lt (inf true)) (sym o) ∙ c))
+infinite_only (inf false) z o c d = inr refl
+infinite_only (fin s m e) z o c d = absurd (true≢false d)
 
 -- a value of n units, n above 0, is no zero
 pub some_units : (e : ℤ) (n c : ℕ) → 0 < n → zero * up e * c ≡ n * down e → ⊥

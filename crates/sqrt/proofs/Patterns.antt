@@ -8,14 +8,14 @@ use native.Mathlib.Omega.{arith}
 use mathlib.Core.Bool.{Bool, true, false, not, cond, true≢false}
 use lib.Dec.{T, leb, eqb, leb→le, eqb→eq, not_T}
 use lib.Pow.{pow-add, pow_pos, pow-lt, shl_lt}
-use lib.Ieee.{Float, nan, inf, fin, Format, binary64, prec, low, down, hid, size, odd, of_fields, of_bits, to_bits, nan_bits, is_nan, ne}
+use lib.Ieee.{Float, nan, inf, fin, Format, binary64, prec, low, down, hid, size, odd, of_fields, of_bits, to_bits, nan_bits}
 use lib.Ieee.Bits.{is_false, cond_no, nan_bits_is}
-use lib.Ieee.Compare.{nan_differs}
 use lib.Ieee.Fits.{down_pos}
 use lib.Ieee.Exact.{HasValue, odd_sign}
 use borrow.Author.Tests.{eq-eqb, ne_eqb}
 use Rattle.rounding.proofs.Numbers.{value_no_nan}
 use Rattle.sqrt.specs.Inner.Steps.{units_of}
+use Rattle.sqrt.proofs.Powers.{joined}
 use Rattle.sqrt.proofs.Shift.{size_exact}
 
 -- ---- what the fields of a pattern are read as
@@ -61,6 +61,12 @@ units_low b e = ap (λ (s : Bool). cond s (b % 2 ^ 52) ((b % 2 ^ 52 + 2 ^ 52) * 
 
 pub units_high : (b : ℕ) → (b / 2 ^ 52 ≡ 0 → ⊥) → units_of b ≡ (b % 2 ^ 52 + 2 ^ 52) * 2 ^ (b / 2 ^ 52 - 1)
 units_high b e = ap (λ (s : Bool). cond s (b % 2 ^ 52) ((b % 2 ^ 52 + 2 ^ 52) * 2 ^ (b / 2 ^ 52 - 1))) (ne_eqb (b / 2 ^ 52) 0 e)
+
+pub high_digits : (b : ℕ) → (b / 2 ^ 52 ≡ 0 → ⊥) → units_of b * 2 ^ 52 ≡ (b % 2 ^ 52 + 2 ^ 52) * 2 ^ (b / 2 ^ 52 + 51)
+high_digits b n =
+    let f = b / 2 ^ 52 in
+    let e : f - 1 + 52 ≡ f + 51 = omega arith in
+    ap (λ (x : ℕ). x * 2 ^ 52) (units_high b n) ∙ joined (b % 2 ^ 52 + 2 ^ 52) (f - 1) 52 (f + 51) e
 
 pub units_pos : (b : ℕ) → 0 < b → 0 < units_of b
 units_pos b h = go (eqb (b / 2 ^ 52) 0) (eqb→eq (b / 2 ^ 52) 0)
@@ -138,11 +144,3 @@ bits_of_lem q k lo hi = go (eq-or-lt_of_le hi)
       where
         turn : (k : ℕ) → 53 + k ≡ 52 + suc k
         turn k = omega arith
-
--- ---- what is no NaN
-
-pub no_nan : (x : Float) → ne x x ≡ false → T (not (is_nan x))
-unfolding is_nan
-no_nan nan h = absurd (true≢false (sym nan_differs ∙ h))
-no_nan (inf s) h = tt
-no_nan (fin s m e) h = tt

@@ -1,9 +1,9 @@
 -- Facts on powers of two that the functions' proofs cite. Assumes nothing.
 use mathlib.Core.Path.{◌≡◌, refl, sym, ap, ◌∙◌}
 use Prim.Native.Nat.{ℕ, zero, suc, ◌+◌, ◌-◌, ◌*◌, ◌/◌, ◌%◌, ◌^◌, ◌≤◌, ◌<◌}
-use native.Mathlib.Nat.{lt_of_lt_of_le, le_trans, le_of_eq, mul_assoc, mul-one, mul-le-mul_left, mod-eq_of_lt}
+use native.Mathlib.Nat.{le_trans, le_of_eq, mul_assoc, mul-one, mul-le-mul_left}
 use native.Mathlib.Omega.{arith}
-use lib.Pow.{pow-add, pow_mono}
+use lib.Pow.{pow-add}
 use Rattle.sqrt.proofs.Roots.{four_pow}
 
 pub joined : (q i j n : ℕ) → i + j ≡ n → q * 2 ^ i * 2 ^ j ≡ q * 2 ^ n
@@ -27,12 +27,12 @@ split_pow q e =
 pub one_or_two : (q e : ℕ) → (q ≤ q * (1 + e % 2)) × (q * (1 + e % 2) ≤ q * 2)
 one_or_two q e = (le_trans (le_of_eq (sym (mul-one q))) (mul-le-mul_left q (omega arith)), mul-le-mul_left q (omega arith))
 
--- the two readings of `units_of`: a shifted fraction, and a significand with its leading one
-pub low_side : (t s : ℕ) → s ≤ 52 → t * 2 ^ s < 2 ^ 53 → (t * 2 ^ s) % 2 ^ 64 * 2 ^ (1074 - s) ≡ t * 2 ^ 1074
-low_side t s h l =
-    let e : s + (1074 - s) ≡ 1074 = omega arith in
-    ap (λ (x : ℕ). x * 2 ^ (1074 - s)) (mod-eq_of_lt (lt_of_lt_of_le l (pow_mono {i = 53} {j = 64} (omega arith)))) ∙ joined t s (1074 - s) 1074 e
+-- digits that stand for the n of units_of stand for the n * 2 ^ 1074 of a root
+pub in_units : (n q place : ℕ) → n * 2 ^ 52 ≡ q * 2 ^ place → q * 2 ^ (place + 1022) ≡ n * 2 ^ 1074
+in_units n q place e =
+    sym (joined q place 1022 (place + 1022) refl) ∙ ap (λ (x : ℕ). x * 2 ^ 1022) (sym e) ∙ joined n 52 1022 1074 refl
 
+-- a significand with its leading one, in the units of a root
 pub high_side : (q f : ℕ) → (f ≡ 0 → ⊥) → q * 2 ^ (f + 1073) ≡ q * 2 ^ (f - 1) * 2 ^ 1074
 high_side q f h =
     let e : f - 1 + 1074 ≡ f + 1073 = omega arith in

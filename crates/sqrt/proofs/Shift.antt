@@ -1,12 +1,13 @@
 -- The leading one of a number: how many binary digits the number has, and by how many places it is shifted to have 53. Assumes nothing.
 use mathlib.Core.Path.{◌≡◌, sym, ap, ◌∙◌, subst}
-use Prim.Native.Nat.{ℕ, suc, ◌+◌, ◌-◌, ◌*◌, ◌/◌, ◌%◌, ◌^◌, ◌≤◌, ◌<◌}
-use native.Mathlib.Nat.{le_antisymm, le_trans, le_of_eq, lt_of_lt_of_le, lt_of_not-le, lt_irrefl, le_of_suc-le-suc, mul-le-mul_right, pow-succ'}
+use Prim.Native.Nat.{ℕ, suc, ◌+◌, ◌-◌, ◌*◌, ◌%◌, ◌^◌, ◌≤◌, ◌<◌}
+use native.Mathlib.Nat.{le_antisymm, le_trans, le_of_eq, lt_of_lt_of_le, lt_of_not-le, lt_irrefl, le_of_suc-le-suc, mul-le-mul_right, mod-eq_of_lt, pow-succ'}
 use native.Mathlib.Omega.{arith}
 use lib.Pow.{pow-add, pow_mono, shl_lt}
 use lib.Count.{count_leading_zeros, leading_length}
 use lib.Ieee.{size}
 use lib.Ieee.Digits.{size-lt, size-le, size_reaches}
+use Rattle.sqrt.proofs.Powers.{joined}
 
 -- a number from 2 ^ a up, and below the next power, has a + 1 digits
 pub size_exact : (a n : ℕ) → 2 ^ a ≤ n → n < 2 ^ suc a → size n ≡ suc a
@@ -44,7 +45,15 @@ shifted t p h =
 
 -- the fraction of a subnormal's pattern, shifted by s
 abbrev pub Shifted : ℕ → ℕ → Type 0
-Shifted bits s = (s ≤ 52) × (2 ^ 52 ≤ bits % 2 ^ 52 * 2 ^ s) × (bits % 2 ^ 52 * 2 ^ s < 2 ^ 53)
+Shifted t s = (s ≤ 52) × (2 ^ 52 ≤ t * 2 ^ s) × (t * 2 ^ s < 2 ^ 53)
 
-pub shifted_fraction : (bits s : ℕ) → 0 < bits → bits / 2 ^ 52 ≡ 0 → s ≡ 53 - size (bits % 2 ^ 52) → Shifted bits s
-shifted_fraction bits s p z e = subst (Shifted bits) (sym e) (shifted (bits % 2 ^ 52) (omega arith) (omega arith))
+pub shifted_fraction : (t s : ℕ) → 0 < t → t < 2 ^ 52 → s ≡ 53 - size t → Shifted t s
+shifted_fraction t s p h e = subst (Shifted t) (sym e) (shifted t p (omega arith))
+
+-- a word's shift loses no digit
+pub shifted_word : (t s : ℕ) → Shifted t s → t * 2 ^ s % 2 ^ 64 ≡ t * 2 ^ s
+shifted_word t s w = mod-eq_of_lt (lt_of_lt_of_le w.2 (pow_mono {i = 53} {j = 64} (omega arith)))
+
+-- the digits and the place of the leading one stand for the same number
+pub low_digits : (t s : ℕ) → s ≤ 52 → t * 2 ^ 52 ≡ t * 2 ^ s * 2 ^ (52 - s)
+low_digits t s w = sym (joined t s (52 - s) 52 (omega arith))

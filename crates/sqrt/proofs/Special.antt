@@ -6,13 +6,14 @@ use native.Mathlib.Nat.{mul-div_cancel}
 use mathlib.Core.Bool.{Bool, true, false, not, true≢false}
 use lib.IntN.{ℤ}
 use lib.Dec.{T}
-use lib.Ieee.{Float, nan, inf, fin, Format, binary64, low, down, of_bits, nan_bits, is_nan, div, eq, lt}
+use lib.Ieee.{Float, nan, inf, fin, Format, binary64, low, down, of_bits, nan_bits, is_nan, eq, lt}
 use lib.Ieee.Bits.{of_bits-to_bits, nan_bits_is}
 use lib.Ieee.Fits.{down_pos}
 use lib.Ieee.Exact.{HasValue}
+use Rattle.std.specs.Float.{float_is_finite}
 use Rattle.sqrt.specs.Sqrt.{rounded, sqrt_of}
 use Rattle.sqrt.specs.Inner.Steps.{Rooted, units_of}
-use Rattle.sqrt.proofs.AboveZero.{naught, zero_only, negative_only, some_units}
+use Rattle.sqrt.proofs.AboveZero.{naught, zero_only, negative_only, infinite_only, some_units}
 use Rattle.sqrt.proofs.Patterns.{value_of, units_pos}
 
 -- ---- "negative or not a number: not a number; negative zero and infinity: itself"
@@ -24,6 +25,11 @@ root_of_nan f = refl
 pub root_of_infinity : (f : Format) → sqrt_of f (inf false) ≡ inf false
 unfolding sqrt_of
 root_of_infinity f = refl
+
+-- what is not finite and not below zero
+pub root_of_infinite : (f : Format) (x : Float) → lt x naught ≡ false → float_is_finite x ≡ false → x ≡ sqrt_of f x
+unfolding sqrt_of
+root_of_infinite f x h k = elim (infinite_only x naught refl h k) [ inl e ↦ e ∙ sym (ap (sqrt_of f) e) | inr e ↦ e ∙ sym (ap (sqrt_of f) e) ]
 
 pub root_of_zero : (f : Format) (s : Bool) (e : ℤ) → sqrt_of f (fin s zero e) ≡ fin s zero e
 unfolding sqrt_of
@@ -38,10 +44,10 @@ pub root_of_negative : (f : Format) (x : Float) → lt x naught ≡ true → sqr
 unfolding sqrt_of
 root_of_negative f x h = elim (negative_only x h) [ inl e ↦ ap (sqrt_of f) e | inr w ↦ ap (sqrt_of f) w.2 ]
 
--- the code's NaN
-pub zero_by_zero : div binary64 (of_bits binary64 0) (of_bits binary64 0) ≡ nan
-unfolding div of_bits
-zero_by_zero = refl
+-- f64::NAN
+pub nan_is : of_bits binary64 0x7ff8_0000_0000_0000 ≡ nan
+unfolding of_bits
+nan_is = refl
 
 -- ---- a finite number above zero
 

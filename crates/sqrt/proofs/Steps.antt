@@ -33,7 +33,7 @@ pub no_digit : (m w q rem i : ℕ) → Taken m w q rem i → i < 54 → rem * 4 
 no_digit m w q rem i t h l = omega (arith, next_pow m i, next_two i, room i h, twice q)
 
 pub digit : (m w q rem i : ℕ) → Taken m w q rem i → i < 54 → q * 2 * 2 < rem * 4 + w / 2 ^ 52 →
-    Taken m (w % 2 ^ 52 * 4) (q * 2 + 1) (rem * 4 + w / 2 ^ 52 - q * 2 * 2 - 1) (i + 1)
+    Taken m (w % 2 ^ 52 * 4) (q * 2 + 1) (rem * 4 + w / 2 ^ 52 - (q * 2 * 2 + 1)) (i + 1)
 digit m w q rem i t h l = omega (arith, next_pow m i, next_two i, room i h, twice q, sq_suc (q * 2))
 
 whole : (m w q rem : ℕ) → w < 2 ^ 54 → rem ≤ 2 * q → m * 4 ^ 54 ≡ (q * q + rem) * 2 ^ 54 + w → IsRoot (m * 2 ^ 54) q

@@ -29,20 +29,21 @@ fn better(z: f64, s: f64) -> f64 {
 fn whole(s: f64) -> u64
     ensures { (2 ^ 52 ≤ result) × (result < 2 ^ 53) }
 {
-    if s != s {
+    if s.is_nan() {
         return 0x10_0000_0000_0000;
     }
-    f64::to_bits(s) % 0x10_0000_0000_0000 + 0x10_0000_0000_0000
+    s.to_bits() % 0x10_0000_0000_0000 + 0x10_0000_0000_0000
 }
 
-// A guess at the whole number nearest to √(2^52 q), or, where odd is not 0, to √(2^53 q).
-pub fn guess(q: u64, odd: u64) -> u64
+// A guess at the whole number nearest to √(2^52 q), or, where odd, to √(2^53 q).
+pub fn guess(q: u64, odd: bool) -> u64
     requires { q < 2 ^ 53 }
     ensures { (2 ^ 52 ≤ result) × (result < 2 ^ 53) }
 {
     let t = f64::from_bits(q + 0x3fe0_0000_0000_0000); // q / 2^52
-    if odd == 0 {
-        return whole(better(TWO_104 * t, TWO_52 * series(t)));
+    if odd {
+        whole(better(TWO_105 * t, ROOT_TWO_105 * series(t)))
+    } else {
+        whole(better(TWO_104 * t, TWO_52 * series(t)))
     }
-    whole(better(TWO_105 * t, ROOT_TWO_105 * series(t)))
 }

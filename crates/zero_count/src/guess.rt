@@ -3,6 +3,8 @@
 ghost use Rattle.std.specs.Prelude.{◌^◌, ◌<◌};
 ghost use Rattle.zero_count.specs.ZeroCount.{places};
 
+use crate::WHOLE;
+
 // 1 - e^-t by four terms of its series.
 fn short_series(t: f64) -> f64 {
     t * (1.0 - t * (0.5 - t * (0.16666666666666666 - t * 0.041666666666666664)))
@@ -19,10 +21,8 @@ fn long_series(t: f64) -> f64 {
 // 1 - (1 - y)^64.
 fn raised(y: f64) -> f64 {
     let mut y = y;
-    let mut i: u32 = 0;
-    while i < 6 {
-        y = y * (2.0 - y);
-        i += 1;
+    for _ in 0..6u32 {
+        y *= 2.0 - y;
     }
     y
 }
@@ -31,33 +31,17 @@ fn raised(y: f64) -> f64 {
 fn complement(n: u64) -> f64 {
     let t = 4.605170185988092 / std::num::nearest_u64_to_f64(n);
     if n < 64 {
-        return raised(long_series(t / 64.0));
+        raised(long_series(t / 64.0))
+    } else if n < 4096 {
+        long_series(t)
+    } else {
+        short_series(t)
     }
-    if n < 4096 {
-        return long_series(t);
-    }
-    short_series(t)
-}
-
-// x without its fraction, or 0 where that is no `u64`.
-fn whole(x: f64) -> u64 {
-    if -1.0 < x {
-        if x < 18446744073709551616.0 {
-            return std::num::truncating_f64_to_u64(x);
-        }
-    }
-    0
 }
 
 // A guess at 2^52 * 0.01^(1/n).
 pub fn guess(n: u64) -> u64
     ensures { (0 < result) × (result < 2 ^ places) }
 {
-    let m = whole((1.0 - complement(n)) * 4503599627370496.0);
-    if 0 < m {
-        if m < 4_503_599_627_370_496 {
-            return m;
-        }
-    }
-    1
+    std::num::saturating_f64_to_u64((1.0 - complement(n)) * 4503599627370496.0).clamp(1, WHOLE - 1)
 }

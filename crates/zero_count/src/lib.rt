@@ -7,18 +7,12 @@ ghost use Rattle.zero_count.specs.Inner.Bounds.{Encloses};
 ghost use Rattle.zero_count.specs.ZeroCount.{fraction, low_enough, places, root_digits, zero_count_bound};
 
 use crate::guess::guess;
+use std::ops::Range;
 
 pub mod guess;
 
 // 1 is so many 2^-52.
 const WHOLE: u64 = 4_503_599_627_370_496;
-
-// The root's digits are low at least, and below high.
-#[derive(Clone, Copy)]
-struct Bounds {
-    low: u64,
-    high: u64,
-}
 
 // m / 2^52.
 fn part(m: u64) -> f64
@@ -36,42 +30,31 @@ fn low_enough(m: u64, n: u64) -> bool
     power::power(part(m), n) <= 0.01
 }
 
-// Bounds about a guess: next to each other where the guess is the root's digits, or one more.
-fn enclose(guess: u64, n: u64) -> Bounds
+// What the root's digits lie in, about a guess: one number alone where the guess is the digits, or one more.
+fn enclose(guess: u64, n: u64) -> Range<u64>
     requires { (0 < guess) × (guess < 2 ^ places) }
-    ensures { Encloses places n result.low result.high }
+    ensures { Encloses places n result.start result.end }
 {
     if low_enough(guess, n) {
         if low_enough(guess + 1, n) {
-            return Bounds {
-                low: guess,
-                high: WHOLE,
-            };
+            return guess..WHOLE;
         }
-        return Bounds {
-            low: guess,
-            high: guess + 1,
-        };
+        return guess..guess + 1;
     }
     if low_enough(guess - 1, n) {
-        return Bounds {
-            low: guess - 1,
-            high: guess,
-        };
+        return guess - 1..guess;
     }
-    Bounds {
-        low: 0,
-        high: guess,
-    }
+    0..guess
 }
 
-// The root's digits, by halving what is between the bounds.
-fn narrow(bounds: Bounds, n: u64) -> u64
-    requires { Encloses places n bounds.low bounds.high }
+// The root's digits, by halving what they lie in.
+fn narrow(bounds: Range<u64>, n: u64) -> u64
+    requires { Encloses places n bounds.start bounds.end }
     ensures { result ≡ root_digits places n }
 {
-    let mut low = bounds.low;
-    let mut high = bounds.high;
+    let mut low = bounds.start;
+    let mut high = bounds.end;
+    // Kept: no count of an index, and std's partition_point asks for a slice, which these numbers do not lie in.
     while low + 1 < high {
         let middle = (low + high) / 2;
         if low_enough(middle, n) {

@@ -31,20 +31,20 @@ unfolding ln_at
 at-over q place h = sym (ap (λ (t : Bool). cond t (whole q place) (halved q place)) (over_root q h))
 
 pub float_from_bits-q : goal.float_from_bits-q
-float_from_bits-q c = fraction_no_nan c.args.q 1022 52 c.requires.0 c.requires.1 (omega arith) refl
+float_from_bits-q c = fraction_no_nan c.args.x.digits 1022 52 c.args.x.in_range.0 c.args.x.in_range.1 (omega arith) refl
 
 pub float_from_bits-q-else-q-lt6369051672525773 : goal.float_from_bits-q-else-q-lt6369051672525773
-float_from_bits-q-else-q-lt6369051672525773 c = fraction_no_nan c.args.q 1021 53 c.requires.0 c.requires.1 (omega arith) refl
+float_from_bits-q-else-q-lt6369051672525773 c = fraction_no_nan c.args.x.digits 1021 53 c.args.x.in_range.0 c.args.x.in_range.1 (omega arith) refl
 
 pub returns-then-q-lt6369051672525773 : goal.returns-then-q-lt6369051672525773
 returns-then-q-lt6369051672525773 c =
     c.series.ensures
-    ∙ (λ i. series (c.exponent_of.ensures i) (fraction_is c.args.q 1022 52 c.requires.0 c.requires.1 (omega arith) refl i ⊖ one_is i))
-    ∙ at_under c.args.q c.args.place c.if-q-lt6369051672525773.true
+    ∙ (λ i. series (c.exponent_of.ensures i) (fraction_is c.args.x.digits 1022 52 c.args.x.in_range.0 c.args.x.in_range.1 (omega arith) refl i ⊖ one_is i))
+    ∙ at_under c.args.x.digits c.args.x.place c.if-q-lt6369051672525773.true
 
 pub returns-else-q-lt6369051672525773 : goal.returns-else-q-lt6369051672525773
 returns-else-q-lt6369051672525773 c =
     c.series-else-q-lt6369051672525773.ensures
-    ∙ (λ i. series (c.exponent_of-else-q-lt6369051672525773.ensures i) (fraction_is c.args.q 1021 53 c.requires.0 c.requires.1 (omega arith) refl i ⊖ one_is i))
-    ∙ ap (λ (n : ℕ). series (of_int binary64 (minus n 1074)) (round binary64 false c.args.q (2 ^ 53) ⊖ one)) (add-one c.args.place)
-    ∙ at-over c.args.q c.args.place c.if-q-lt6369051672525773.false
+    ∙ (λ i. series (c.exponent_of-else-q-lt6369051672525773.ensures i) (fraction_is c.args.x.digits 1021 53 c.args.x.in_range.0 c.args.x.in_range.1 (omega arith) refl i ⊖ one_is i))
+    ∙ ap (λ (n : ℕ). series (of_int binary64 (minus n 1074)) (round binary64 false c.args.x.digits (2 ^ 53) ⊖ one)) (add-one c.args.x.place)
+    ∙ at-over c.args.x.digits c.args.x.place c.if-q-lt6369051672525773.false

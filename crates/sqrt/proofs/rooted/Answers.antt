@@ -1,4 +1,4 @@
--- `sqrt::rooted` meets its contract. q * 2 ^ e is m * 4 ^ (e / 2), where m is q, or 2 * q where e is odd; its root is 2 ^ (e / 2 - 26) times half of
+-- `sqrt::rooted` meets its contract. The number q * 2 ^ e is m * 4 ^ (e / 2), where m is q, or 2 * q where e is odd; its root is 2 ^ (e / 2 - 26) times half of
 -- the root of m * 2 ^ 54, whose 54 digits the rounding of one digit makes 53. Assumes nothing.
 use mathlib.Core.Path.{sym, subst}
 use Prim.Native.Nat.{ℕ, ◌+◌, ◌-◌, ◌*◌, ◌/◌, ◌%◌, ◌^◌}
@@ -9,23 +9,25 @@ use Rattle.sqrt.proofs.Rounded.{sig_in, rooted}
 use Rattle.sqrt.proofs.rooted.Goals as goal
 
 pub overflow_mul-q : goal.overflow_mul-q
-overflow_mul-q c = omega (arith, one_or_two c.args.q c.args.e)
+overflow_mul-q c = omega (arith, one_or_two c.args.s.digits (c.args.s.place + 1022))
 
 pub nearest-requires : goal.nearest-requires
-nearest-requires c = omega (arith, one_or_two c.args.q c.args.e)
+nearest-requires c = omega (arith, one_or_two c.args.s.digits (c.args.s.place + 1022))
 
 pub overflow_add-result : goal.overflow_add-result
 overflow_add-result c =
-    let a = c.args in
-    let w = one_or_two a.q a.e in
-    omega (arith, c.nearest.ensures, sig_in (a.q * (1 + a.e % 2)) (omega arith) (omega arith))
+    let q = c.args.s.digits in
+    let e = c.args.s.place + 1022 in
+    let w = one_or_two q e in
+    omega (arith, c.nearest.ensures, sig_in (q * (1 + e % 2)) (omega arith) (omega arith))
 
 pub returns : goal.returns
 returns c =
-    let a = c.args in
-    let m = a.q * (1 + a.e % 2) in
-    let h = a.e / 2 in
-    let w = one_or_two a.q a.e in
-    subst (λ (n : ℕ). Rooted n ((h - 26) * 2 ^ 52 + c.nearest.result)) (split_pow a.q a.e)
+    let q = c.args.s.digits in
+    let e = c.args.s.place + 1022 in
+    let m = q * (1 + e % 2) in
+    let h = e / 2 in
+    let w = one_or_two q e in
+    subst (λ (n : ℕ). Rooted n ((h - 26) * 2 ^ 52 + c.nearest.result)) (split_pow q e)
     (subst (λ (x : ℕ). Rooted (m * 4 ^ h) ((h - 26) * 2 ^ 52 + x)) (sym c.nearest.ensures)
     (rooted m h (omega arith) (omega arith) (omega arith) (omega arith)))
