@@ -1,27 +1,34 @@
 -- The laws of the table's entries that its readers need: how large a cutoff can be, and that the entropies in range are those whose entry the table has.
 -- An entry j is that of the double j / 64, which is exact, so the test `j / 64 <= h` says that the entry of h is at least j. Assumes nothing.
 use mathlib.Core.Path.{◌≡◌, refl, sym, ap, ◌∙◌, subst}
-use Prim.Native.Nat.{ℕ, ◌+◌, ◌-◌, ◌*◌, ◌≤◌, ◌<◌}
+use Prim.Native.Nat.{ℕ, ◌+◌, ◌-◌, ◌*◌, ◌/◌, ◌^◌, ◌≤◌, ◌<◌, min}
 use native.Mathlib.Nat.{le_trans, le_of_eq, le_antisymm, lt_of_not-le, not-le_of_lt, zero-lt-suc, mul-one, mul_comm, mul-le-mul_right}
-use native.Mathlib.Nat.{le-div_iff_mul-le, div-lt_iff_lt-mul}
+use native.Mathlib.Nat.{le-div_iff_mul-le, div-lt_iff_lt-mul, lt_of_le_of_lt, lt_of_lt_of_le, lt_of_mul-lt-mul_right, min-eq_left, mul-div-mul_right, mul-lt-mul_of_pos_right}
 use native.Mathlib.Omega.{arith}
 use mathlib.Core.Logic.{◌⊎◌, inl, inr}
-use mathlib.Core.Bool.{Bool, true, false}
-use lib.Dec.{T, leb, lit≤, ltb}
+use mathlib.Core.Bool.{Bool, true, false, cond, true≢false}
+use lib.IntN.{pos}
+use lib.Dec.{T, leb, lit≤, ltb, le→leb, lt→ltb}
 use borrow.Author.Tests.{leb-false, leb-true, ltb-false, ltb-true}
 use lib.Pow.{pow_pos}
-use lib.Ieee.{Float, binary64, mul, fits, le}
+use lib.Ieee.{Float, nan, inf, fin, binary64, mul, fits, le, lt, up, down, to_unsigned}
+use Rattle.std.specs.Float.{◌<ᶠ◌, minus_one, two_to}
 use lib.Ieee.Bits.{is_true}
-use lib.Ieee.Fits.{and_l, and_r, mul-fits}
+use lib.Ieee.Fits.{and_l, and_r, down_pos, mul-fits}
 use lib.Ieee.Exact.{HasValue}
 use lib.Ieee.Order.{le_of_values}
 use lib.Ieee.Positive.{num, den, den_pos, between, own_value}
+use Rattle.std.specs.Prelude.{Result, Ok, Err}
+use Rattle.answer.specs.Results.{number_of, place_of}
+use Rattle.answer.specs.declared.Refusal.{Refusal}
+use Rattle.answer.proofs.Results.{held, held_kept}
+use Rattle.cutoff.specs.declared.Cutoff.{Cutoff}
 use Rattle.rounding.specs.Doubles.{eight, whole}
-use Rattle.rounding.proofs.Exact.{held_whole, mul_held}
+use Rattle.rounding.proofs.Exact.{held_whole, mul_held, scale_up}
 use Rattle.rounding.proofs.FromZero.{nonneg_of_value, le_self, fractions_of_le}
 use Rattle.rounding.proofs.Ranges.{whole_value}
-use Rattle.rounding.proofs.Compare.{holds, clash}
-use Rattle.cutoff.specs.Cutoff.{entries, spread, rounded_up, cutoff_at, Entry, sixty_fourth, in_range, entry_of}
+use Rattle.rounding.proofs.Compare.{holds}
+use Rattle.cutoff.specs.Cutoff.{entries, spread, rounded_up, cutoff_at, Entry, sixty_fourth, in_range, entry_of, told}
 use Rattle.cutoff.proofs.RoundedUp.{rounded_up_enough, rounded_up_least, rounded_up_above, rounded_up_pos, rounded_up_twice, rounded_up_thrice}
 
 -- ---- the cutoffs
@@ -151,13 +158,6 @@ module _ (h : Float) (e : in_range h ≡ true) (x : Float) (j : ℕ) (v : HasVal
   unfolding entry_of
   reached l = (le-div_iff_mul-le (den_pos h)).1 (le_trans (fractions_of_le x h j 64 (num h) (den h) v value l) (le_of_eq (mul_comm (num h) 64)))
 
-  missed : le x h ≡ false → entry_of h < j
-  unfolding entry_of
-  missed t =
-      (div-lt_iff_lt-mul (den_pos h)).1
-      (lt_of_not-le (λ (g : j * den h ≤ 64 * num h). clash (le x h)
-      (le_of_values x h j 64 (num h) (den h) (zero-lt-suc 63) (den_pos h) v value (le_trans g (le_of_eq (mul_comm 64 (num h))))) t))
-
   within : T (le h x) → entry_of h ≤ j
   unfolding entry_of
   within l =
@@ -177,12 +177,75 @@ eight_value = (refl, refl)
 pub entry_range : (h : Float) → in_range h ≡ true → (1 ≤ entry_of h) × (entry_of h ≤ entries)
 entry_range h e = (reached h e sixty_fourth 1 (refl, refl) (from_sixty_fourth h e), within h e eight entries eight_value (to_eight h e))
 
-module _ (h : Float) (e : in_range h ≡ true) (j : ℕ) (l : j ≤ entries) where
-  pub share_reached : le (share j) h ≡ true → j ≤ entry_of h
-  share_reached t = reached h e (share j) j (share_value j l) (holds (le (share j) h) t)
+-- ---- how many whole 1/64 a double in range has: 64 times it, which is exact, without its fraction
+abbrev pub sixty_four : Float
+sixty_four = fin false 1 (pos 6)
 
-  pub share_missed : le (share j) h ≡ false → entry_of h < j
-  share_missed t = missed h e (share j) j (share_value j l) t
+same_quotient : (n d a c : ℕ) → 0 < d → 0 < c → n * c ≡ a * d → n / d ≡ a / c
+same_quotient n d a c D C e =
+    sym (mul-div-mul_right n d C) ∙ ap (λ (z : ℕ). z / (d * c)) e ∙ ap (λ (z : ℕ). a * d / z) (mul_comm d c) ∙ mul-div-mul_right a c D
+
+-- by any fraction that the value equals
+without_fraction : (x : Float) (a c : ℕ) → 0 < c → HasValue x false a c → a / c ≤ 2 ^ 64 - 1 → to_unsigned 64 x ≡ a / c
+unfolding to_unsigned
+without_fraction nan a c C v h = absurd v
+without_fraction (inf s) a c C v h = absurd v
+without_fraction (fin s m e) a c C v h =
+    let q = same_quotient (m * up e) (down e) a c (down_pos e) C v.1 in
+    ap (λ (b : Bool). cond b 0 (min (m * up e / down e) (2 ^ 64 - 1))) v.0 ∙ ap (λ (n : ℕ). min n (2 ^ 64 - 1)) q ∙ min-eq_left h
+
+over_minus_one : (x : Float) (a c : ℕ) → HasValue x false a c → minus_one <ᶠ x
+unfolding lt
+over_minus_one nan a c v = absurd v
+over_minus_one (inf s) a c v = absurd v
+over_minus_one (fin true m e) a c v = absurd (true≢false v.0)
+over_minus_one (fin false m e) a c v = le→leb 1 (1 * down e + m * up e * 1) (omega (arith, down_pos e))
+
+crossed : (n d a c p : ℕ) → 0 < d → n * c ≡ a * d → a < p * c → n * 1 < p * d
+crossed n d a c p D e h =
+    lt_of_mul-lt-mul_right c (lt_of_le_of_lt (le_of_eq (once n c ∙ e)) (lt_of_lt_of_le (mul-lt-mul_of_pos_right h D) (le_of_eq (turn p c d))))
+  where
+    once : (n c : ℕ) → n * 1 * c ≡ n * c
+    once n c = omega arith
+
+    turn : (p c d : ℕ) → p * c * d ≡ p * d * c
+    turn p c d = omega arith
+
+under_two_to : (x : Float) (a c : ℕ) → HasValue x false a c → a < 2 ^ 64 * c → x <ᶠ two_to 64
+unfolding lt
+under_two_to nan a c v h = absurd v
+under_two_to (inf s) a c v h = absurd v
+under_two_to (fin true m e) a c v h = absurd (true≢false v.0)
+under_two_to (fin false m e) a c v h = lt→ltb (m * up e * 1) (2 ^ 64 * down e) (crossed (m * up e) (down e) a c (2 ^ 64) (down_pos e) v.1 h)
+
+module _ (h : Float) (t : T (fits binary64 h)) (e : in_range h ≡ true) where
+  own : HasValue h false (num h) (den h)
+  own = own_value h (between sixty_fourth h eight tt tt (from_sixty_fourth h e) (to_eight h e))
+
+  few : num h * 1 ≤ 8 * den h
+  few = fractions_of_le h eight (num h) (den h) 8 1 own (refl, refl) (to_eight h e)
+
+  under : (p : ℕ) → 1024 ≤ p → num h * 2 ^ 6 < p * den h
+  under p P = lt_of_lt_of_le (more (num h) (den h) (den_pos h) few) (mul-le-mul_right (den h) P)
+    where
+      more : (n d : ℕ) → 0 < d → n * 1 ≤ 8 * d → n * 64 < 1024 * d
+      more n d D l = omega arith
+
+  product : HasValue (mul binary64 h sixty_four) false (num h * 2 ^ 6) (den h)
+  product = scale_up binary64 h sixty_four (num h) (den h) 6 (den_pos h) t own (refl, refl) (under (2 ^ 1024) (lit≤ tt))
+
+  pub product_over : minus_one <ᶠ mul binary64 h sixty_four
+  product_over = over_minus_one (mul binary64 h sixty_four) (num h * 2 ^ 6) (den h) product
+
+  pub product_under : mul binary64 h sixty_four <ᶠ two_to 64
+  product_under = under_two_to (mul binary64 h sixty_four) (num h * 2 ^ 6) (den h) product (under (2 ^ 64) (lit≤ tt))
+
+  pub whole_64ths : to_unsigned 64 (mul binary64 h sixty_four) ≡ entry_of h
+  unfolding entry_of entries
+  whole_64ths =
+      let turn : num h * 2 ^ 6 / den h ≡ 64 * num h / den h = ap (λ (z : ℕ). z / den h) (mul_comm (num h) 64) in
+      without_fraction (mul binary64 h sixty_four) (num h * 2 ^ 6) (den h) (den_pos h) product
+      (le_trans (le_of_eq turn) (le_trans (entry_range h e).1 (lit≤ tt))) ∙ turn
 
 -- ---- every entry is that of a double in range
 pub record EntropyOf (j : ℕ) : Type 0 where
@@ -205,3 +268,13 @@ entry_of_share j h g =
       taken = t;
       is = le_antisymm (within x t x j v l) (reached x t x j v l);
     }
+
+-- ---- C is told which result it was: a refusal that names no place by its number, and a cutoff by itself
+abbrev pub cutoff_in : Cutoff → Result ℕ Refusal
+cutoff_in c = held c.cutoff c.number 0
+
+pub refusal_told : (e : Refusal) → place_of e ≡ 0 → cutoff_in (told (Err e)) ≡ Err e
+refusal_told e h = let none : ℕ = 0 in subst (λ (p : ℕ). held none (number_of e) p ≡ Err e) h (held_kept none e)
+
+pub cutoff_told : (c : ℕ) → cutoff_in (told (Ok c)) ≡ Ok c
+cutoff_told c = refl

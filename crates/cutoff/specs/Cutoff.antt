@@ -1,10 +1,12 @@
 -- The cutoffs of the repetition count test, SP 800-90B 4.4.1: "C = 1 + ⌈-log2 α / H⌉". With α = 2^-20 and H = j / 64 bits that is 1 + ⌈1280 / j⌉. Definitions only.
-use Rattle.std.specs.Prelude.{◌≡◌, ℕ, ◌+◌, ◌-◌, ◌*◌, ◌/◌, ◌≤◌, Bool, false, ◌&&◌, cond, negsuc, Float}
+use Rattle.std.specs.Prelude.{◌≡◌, ℕ, ◌+◌, ◌-◌, ◌*◌, ◌/◌, ◌≤◌, Bool, false, ◌&&◌, cond, negsuc, Float, Result, Ok, Err}
 use Rattle.std.specs.Float.{fin}
 use Rattle.std.specs.Float.Ieee.{le}
 use Rattle.std.specs.Float.Ieee.Positive.{num, den}
 use Rattle.rounding.specs.Doubles.{eight}
 use Rattle.answer.specs.Numbers.{done, out_of_range}
+use Rattle.answer.specs.Results.{number_of}
+use Rattle.answer.specs.declared.Refusal.{Refusal}
 use Rattle.cutoff.specs.declared.Cutoff.{Cutoff}
 
 -- "a table of 512 cutoffs, one for each 1/64 bit"
@@ -45,3 +47,8 @@ entry_of h = 64 * num h / den h
 unfoldable pub cutoff_of : Float → Cutoff
 cutoff_of h =
     cond (in_range h) (record { number = done; cutoff = cutoff_at (entry_of h) }) (record { number = out_of_range; cutoff = 0 })
+
+-- what C is told of a cutoff that was found, or of a refusal
+abbrev pub told : Result ℕ Refusal → Cutoff
+told (Ok c) = record { number = done; cutoff = c }
+told (Err e) = record { number = number_of e; cutoff = 0 }

@@ -1,10 +1,11 @@
 // The cutoffs of the repetition count test of SP 800-90B 4.4.1, for a false alarm probability of 2^-20.
 #![tactic(auto)]
 
-ghost use Rattle.std.specs.Prelude.{◌≡◌, true, ◌≤◌};
-ghost use Rattle.cutoff.specs.Cutoff.{Entry, cutoff_of, entry_of, in_range, rounded_up};
+ghost use Rattle.std.specs.Prelude.{◌≡◌, true};
+ghost use Rattle.cutoff.specs.Cutoff.{Entry, cutoff_of, entry_of, in_range, told};
 
-use answer::{DONE, OUT_OF_RANGE};
+use answer::{DONE, Refusal};
+use std::num::truncating_f64_to_u64;
 use table::cutoff_at;
 
 mod table;
@@ -15,7 +16,7 @@ const ENTRIES: usize = 512;
 // The 20 bits of the false alarm probability, in 1/64 bit.
 const SPREAD: usize = 1280;
 
-// The cutoff for an entropy, or a refusal.
+// The cutoff for an entropy, or a refusal, as C has it.
 #[repr(C)]
 #[derive(Clone, Copy)]
 pub struct Cutoff {
@@ -23,47 +24,42 @@ pub struct Cutoff {
     pub cutoff: u64,
 }
 
-// The entropy in whole 1/64 bit: entry j is asked for by its double, j/64, which is exact.
+impl From<Result<u16, Refusal>> for Cutoff {
+    ghost use Rattle.std.specs.Prelude.{◌≡◌};
+    ghost use Rattle.cutoff.specs.Cutoff.{told};
+
+    ghost from_gives = { λ found cutoff. cutoff ≡ told found };
+
+    fn from(found: Result<u16, Refusal>) -> Cutoff {
+        match found {
+            Ok(cutoff) => Cutoff {
+                number: DONE,
+                cutoff: u64::from(cutoff),
+            },
+            Err(refusal) => Cutoff {
+                number: refusal.number(),
+                cutoff: 0,
+            },
+        }
+    }
+}
+
+// The entropy in whole 1/64 bit. The product is exact.
 fn entry_of(entropy: f64) -> usize
     requires { in_range entropy ≡ true }
     ensures { result ≡ entry_of entropy }
 {
-    let mut low: usize = 1;
-    let mut high: usize = ENTRIES + 1;
-    while low + 1 < high {
-        let middle = (low + high) / 2;
-        if (middle as f64) * 0.015625 <= entropy {
-            low = middle;
-        } else {
-            high = middle;
-        }
-    }
-    low
+    truncating_f64_to_u64(entropy * 64.0) as usize
 }
 
-// The cutoff for an entropy in bits per sample, rounded down to 1/64; number 5 where it is none from 1/64 to 8.
-pub fn cutoff_for(entropy: f64) -> Cutoff
-    ensures { result ≡ cutoff_of entropy }
+// The cutoff for an entropy in bits per sample, rounded down to 1/64; out of range where it is none from 1/64 to 8.
+pub fn cutoff_for(entropy: f64) -> Result<u16, Refusal>
+    ensures { told result ≡ cutoff_of entropy }
 {
-    if 0.015625 <= entropy {
-        if entropy <= 8.0 {
-            return Cutoff {
-                number: DONE,
-                cutoff: cutoff_at(entry_of(entropy)) as u64,
-            };
-        }
+    if 0.015625 <= entropy && entropy <= 8.0 {
+        return Ok(cutoff_at(entry_of(entropy)));
     }
-    Cutoff {
-        number: OUT_OF_RANGE,
-        cutoff: 0,
-    }
-}
-
-fn rounded_up(a: usize, b: usize) -> usize
-    requires { (1 ≤ b) × (b ≤ 65535) × (a ≤ 65535) }
-    ensures { result ≡ rounded_up a b }
-{
-    (a + (b - 1)) / b
+    Err(Refusal::OutOfRange)
 }
 
 // Whether a number is one of the cutoffs, without the table: the first entry whose cutoff is no larger has it, or none does.
@@ -73,9 +69,8 @@ pub fn is_cutoff(n: u16) -> bool
     if n < 2 {
         return false;
     }
-    let entry = rounded_up(SPREAD, (n as usize) - 1);
-    if ENTRIES < entry {
-        return false;
-    }
-    entry * ((n as usize) - 2) < SPREAD
+    let less_one = usize::from(n) - 1;
+    let entry = SPREAD.div_ceil(less_one);
+    let in_table = entry <= ENTRIES;
+    in_table && entry * (less_one - 1) < SPREAD
 }

@@ -8,13 +8,14 @@ use native.Mathlib.Omega.{arith}
 use lib.Dec.{eqb, leb, ltb}
 use lib.Ieee.{Float}
 use borrow.Author.Tests.{eq-eqb, leb-false, leb-true, ltb-false, ltb-true, ne_eqb}
+use Rattle.std.specs.Prelude.{Ok}
 use Rattle.answer.specs.Numbers.{bad_state, done}
 use Rattle.cutoff.specs.Cutoff.{in_range}
 use Rattle.repetition.specs.declared.step.RepetitionTest.{RepetitionTest}
 use Rattle.repetition.specs.declared.step.Alarm.{Alarm}
 use Rattle.repetition.specs.History.{History, Possible, cutoff_for, last_sample, left, never, run, since}
 use Rattle.repetition.specs.Inner.Started.{Started}
-use Rattle.repetition.specs.Repetition.{Sampled, after, answered, no_alarm}
+use Rattle.repetition.specs.Repetition.{Sampled, after, alarm_of, answered, no_alarm}
 use Rattle.repetition.specs.Inner.Counted.{counted}
 use Rattle.repetition.proofs.Histories.{cutoff_pos, never_apart}
 use Rattle.repetition.proofs.Runs.{last_then, run_then}
@@ -63,6 +64,11 @@ module _ (st : RepetitionTest) (x : ℕ) where
       known never q e = absurd (never_apart started.entropy started.samples started.possible (sym e ∙ started.is))
       known (since h s) q e =
           subst (λ (t : RepetitionTest). (answer_of t x ≡ answered (since h (s ++ x ∷ []))) × (next_of t x ≡ left (since h (s ++ x ∷ [])))) (sym e) (heard h s x q.1)
+
+  -- with the number y of the byte, and the count n
+  pub sampled_by : (y n : ℕ) → Started st → y ≡ x → n ≡ counted st y
+      → Sampled st x (alarm_of (Ok (eqb n st.cutoff))) (record { cutoff = st.cutoff; last_sample = y; count = n })
+  sampled_by y n started e g = rw (g, e) (sampled_of started)
 
   pub unheard : (Started st → ⊥) → Sampled st x (no_alarm bad_state) st
   unheard none = record { known = known; foreign = λ _. (refl, refl) }

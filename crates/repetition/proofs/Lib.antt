@@ -3,3 +3,4 @@ pub mod Histories
 pub mod Hearing
 pub mod Once
 pub mod InRow
+pub mod Starting

@@ -1,6 +1,8 @@
 -- What a start and a sample answer, and the state that they leave. Definitions only.
-use Rattle.std.specs.Prelude.{◌≡◌, cond, [], ◌∷◌, ◌++◌, ℕ, leb, Float}
+use Rattle.std.specs.Prelude.{◌≡◌, Bool, cond, [], ◌∷◌, ◌++◌, ℕ, leb, Float, Result, Ok, Err}
 use Rattle.answer.specs.Numbers.{done, out_of_range, bad_state}
+use Rattle.answer.specs.Results.{number_of}
+use Rattle.answer.specs.declared.Refusal.{Refusal}
 use Rattle.cutoff.specs.Cutoff.{in_range}
 use Rattle.repetition.specs.declared.step.RepetitionTest.{RepetitionTest}
 use Rattle.repetition.specs.declared.step.Alarm.{Alarm}
@@ -20,6 +22,11 @@ after (since h s) x = since h (s ++ x ∷ [])
 
 abbrev pub no_alarm : ℕ → Alarm
 no_alarm n = record { number = n; alarm = 0 }
+
+-- what C is told of whether the alarm stands, or of a refusal
+abbrev pub alarm_of : Result Bool Refusal → Alarm
+alarm_of (Ok stands) = record { number = done; alarm = cond stands 1 0 }
+alarm_of (Err e) = no_alarm (number_of e)
 
 -- what is answered to a history's last sample: "10 for a sample before a start"; else "the alarm stands after a sample exactly when the number of equal
 -- samples ending there, since the start, has reached the cutoff"

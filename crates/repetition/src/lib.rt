@@ -4,4 +4,4 @@
 
 mod step;
 
-pub use step::{Alarm, Begun, Heard, RepetitionTest, begin, hear};
+pub use step::{Alarm, RepetitionTest};

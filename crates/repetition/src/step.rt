@@ -1,10 +1,11 @@
-// One start and one sample, by value: the state goes in and comes back.
+// The running test: a start, and a sample.
 ghost use Rattle.std.specs.Prelude.{◌≡◌, true};
-ghost use Rattle.repetition.specs.Repetition.{Sampled, begin_number, begun};
+ghost use Rattle.answer.specs.Results.{number_in};
+ghost use Rattle.repetition.specs.Repetition.{Sampled, alarm_of, begin_number, begun};
 ghost use Rattle.repetition.specs.Inner.Counted.{counted};
 ghost use Rattle.repetition.specs.Inner.Started.{Started};
 
-use answer::{BAD_STATE, DONE};
+use answer::{DONE, Refusal};
 use cutoff::{cutoff_for, is_cutoff};
 
 // The running test's state, lent by the host; all 0 where it was never started.
@@ -16,7 +17,7 @@ pub struct RepetitionTest {
     pub count: u16,
 }
 
-// Whether the alarm stands, or a refusal.
+// Whether the alarm stands, or a refusal, as C has it.
 #[repr(C)]
 #[derive(Clone, Copy)]
 pub struct Alarm {
@@ -24,93 +25,81 @@ pub struct Alarm {
     pub alarm: u64,
 }
 
-#[derive(Clone, Copy)]
-pub struct Begun {
-    pub number: u64,
-    pub state: RepetitionTest,
-}
+impl From<Result<bool, Refusal>> for Alarm {
+    ghost use Rattle.std.specs.Prelude.{◌≡◌};
+    ghost use Rattle.repetition.specs.Repetition.{alarm_of};
 
-#[derive(Clone, Copy)]
-pub struct Heard {
-    pub alarm: Alarm,
-    pub state: RepetitionTest,
-}
+    ghost from_gives = { λ heard alarm. alarm ≡ alarm_of heard };
 
-// A start, whatever was there before: the cutoff for the entropy, and nothing heard. 5 leaves what was there.
-pub fn begin(before: RepetitionTest, entropy: f64) -> Begun
-    ensures { (result.number ≡ begin_number entropy) × (result.state ≡ begun before entropy) }
-{
-    let found = cutoff_for(entropy);
-    if found.number != DONE {
-        return Begun {
-            number: found.number,
-            state: before,
-        };
-    }
-    Begun {
-        number: DONE,
-        state: RepetitionTest {
-            cutoff: found.cutoff as u16,
-            last_sample: 0,
-            count: 0,
-        },
-    }
-}
-
-// Whether a start and samples could have left the state.
-pub fn is_started(state: RepetitionTest) -> bool
-    ensures { (result ≡ true → Started state) × (Started state → result ≡ true) }
-{
-    if !is_cutoff(state.cutoff) {
-        return false;
-    }
-    if state.cutoff < state.count {
-        return false;
-    }
-    if state.count == 0 {
-        return state.last_sample == 0;
-    }
-    state.last_sample <= 255
-}
-
-// How many equal samples end with this one, as far as the cutoff.
-#[tactic(auto, unfolding(crate::specs::Inner::Counted::counted))]
-fn counted_with(state: RepetitionTest, sample: u16) -> u16
-    ensures { result ≡ counted state sample }
-{
-    if sample != state.last_sample {
-        return 1;
-    }
-    if state.count < state.cutoff {
-        return state.count + 1;
-    }
-    state.count
-}
-
-// A sample, and whether the alarm stands after it. 10 leaves the state as it was.
-pub fn hear(state: RepetitionTest, sample: u8) -> Heard
-    ensures { Sampled state sample result.alarm result.state }
-{
-    if !is_started(state) {
-        return Heard {
-            alarm: Alarm {
-                number: BAD_STATE,
+    fn from(heard: Result<bool, Refusal>) -> Alarm {
+        match heard {
+            Ok(alarm) => Alarm {
+                number: DONE,
+                alarm: u64::from(alarm),
+            },
+            Err(refusal) => Alarm {
+                number: refusal.number(),
                 alarm: 0,
             },
-            state,
-        };
+        }
     }
-    let cutoff = state.cutoff;
-    let count = counted_with(state, sample as u16);
-    Heard {
-        alarm: Alarm {
-            number: DONE,
-            alarm: (count == cutoff) as u64,
-        },
-        state: RepetitionTest {
+}
+
+impl RepetitionTest {
+    // A start, whatever was there before: the cutoff for the entropy, and nothing heard. A refusal leaves what was there.
+    pub fn begin(&mut self, entropy: f64) -> Result<(), Refusal>
+        ensures { (number_in result ≡ begin_number entropy) × (self.new ≡ begun self.old entropy) }
+    {
+        let cutoff = cutoff_for(entropy)?;
+        *self = RepetitionTest {
             cutoff,
-            last_sample: sample as u16,
-            count,
-        },
+            last_sample: 0,
+            count: 0,
+        };
+        Ok(())
+    }
+
+    // A sample, and whether the alarm stands after it. A refusal leaves the state as it was.
+    #[tactic(auto, using(crate::proofs::Hearing::sampled_by, crate::proofs::Hearing::unheard))]
+    pub fn hear(&mut self, sample: u8) -> Result<bool, Refusal>
+        ensures { Sampled self.old sample (alarm_of result) self.new }
+    {
+        if !self.is_started() {
+            return Err(Refusal::BadState);
+        }
+        let sample = u16::from(sample);
+        self.count = self.counted_with(sample);
+        self.last_sample = sample;
+        Ok(self.count == self.cutoff)
+    }
+
+    // Whether a start and samples could have left the state.
+    pub fn is_started(self) -> bool
+        ensures { (result ≡ true → Started self) × (Started self → result ≡ true) }
+    {
+        if !is_cutoff(self.cutoff) {
+            return false;
+        }
+        if self.cutoff < self.count {
+            return false;
+        }
+        if self.count == 0 {
+            return self.last_sample == 0;
+        }
+        self.last_sample <= 255
+    }
+
+    // How many equal samples end with this one, as far as the cutoff.
+    #[tactic(auto, unfolding(crate::specs::Inner::Counted::counted))]
+    fn counted_with(self, sample: u16) -> u16
+        ensures { result ≡ counted self sample }
+    {
+        if sample != self.last_sample {
+            return 1;
+        }
+        if self.count < self.cutoff {
+            return self.count + 1;
+        }
+        self.count
     }
 }

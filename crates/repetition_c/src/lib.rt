@@ -1,19 +1,20 @@
-// The C interface of the repetition test. Each function that changes a state is thin: it takes the state from behind the reference, and puts back what the step made of it.
+// The C interface of the repetition test. Each function is thin: it makes of a method's result what C gets of it.
 #![tactic(auto)]
 
 ghost use Rattle.std.specs.Prelude.{◌≡◌};
 ghost use Rattle.cutoff.specs.Cutoff.{cutoff_of};
 ghost use Rattle.repetition.specs.Repetition.{Sampled, begin_number, begun};
 
+use answer::DONE;
 use cutoff::Cutoff;
-use repetition::{Alarm, RepetitionTest, begin, hear};
+use repetition::{Alarm, RepetitionTest};
 
 // How many equal samples in a row the alarm stands at, for an entropy in bits per sample.
 #[unsafe(no_mangle)]
 pub extern "C" fn abutfern_repetition_cutoff(entropy: f64) -> Cutoff
     ensures { result ≡ cutoff_of entropy }
 {
-    cutoff::cutoff_for(entropy)
+    Cutoff::from(cutoff::cutoff_for(entropy))
 }
 
 // Starts the test, whatever was heard before. Answers 0, or 5 for the entropy.
@@ -21,9 +22,10 @@ pub extern "C" fn abutfern_repetition_cutoff(entropy: f64) -> Cutoff
 pub extern "C" fn abutfern_repetition_start(state: &mut RepetitionTest, entropy: f64) -> u64
     ensures { (result ≡ begin_number entropy) × (state.new ≡ begun state.old entropy) }
 {
-    let begun = begin(*state, entropy);
-    *state = begun.state;
-    begun.number
+    match state.begin(entropy) {
+        Ok(()) => DONE,
+        Err(refusal) => refusal.number(),
+    }
 }
 
 // Takes the next sample: 0 and whether the alarm stands after it, or 10 for the state.
@@ -31,7 +33,5 @@ pub extern "C" fn abutfern_repetition_start(state: &mut RepetitionTest, entropy:
 pub extern "C" fn abutfern_repetition_sample(state: &mut RepetitionTest, sample: u8) -> Alarm
     ensures { Sampled state.old sample result state.new }
 {
-    let heard = hear(*state, sample);
-    *state = heard.state;
-    heard.alarm
+    Alarm::from(state.hear(sample))
 }

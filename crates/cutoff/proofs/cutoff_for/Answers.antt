@@ -9,6 +9,7 @@ use Rattle.rounding.specs.Doubles.{eight}
 use Rattle.cutoff.specs.Cutoff.{entries, cutoff_at, sixty_fourth, in_range, entry_of, cutoff_of}
 use Rattle.cutoff.specs.declared.Cutoff.{Cutoff}
 use Rattle.cutoff.proofs.Entries.{in_range_lem, entry_range}
+use Rattle.cutoff.proofs.cutoff_for.Goals.{else-entropy-via-then-entropy+else-entropy-2, else-entropy-via-else-entropy}
 use Rattle.cutoff.proofs.cutoff_for.Goals as goal
 
 -- ---- the definition's cases
@@ -47,10 +48,10 @@ returns-then-entropy-2 c =
     ap answered (c.cutoff_at.ensures ∙ ap cutoff_at c.entry_of.ensures)
     ∙ sym (answer_in_lem c.args.entropy (in_range_lem c.args.entropy c.if-entropy.true c.if-entropy-2.true))
 
-pub returns-else-entropy-2 : goal.returns-else-entropy-2
+pub returns : goal.returns
 unfolding of_bits
-returns-else-entropy-2 c = sym (answer_high c.args.entropy c.if-entropy.true c.if-entropy-2.false)
-
-pub returns-else-entropy : goal.returns-else-entropy
-unfolding of_bits
-returns-else-entropy c = sym (answer_low c.args.entropy c.if-entropy.false)
+returns c =
+    elim c.else-entropy.branch [
+      | else-entropy-via-then-entropy+else-entropy-2 w ↦ sym (answer_high c.args.entropy w.if-entropy.true w.if-entropy-2.false)
+      | else-entropy-via-else-entropy w ↦ sym (answer_low c.args.entropy w.if-entropy.false)
+    ]

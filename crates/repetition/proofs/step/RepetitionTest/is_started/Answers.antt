@@ -1,4 +1,4 @@
--- `step::is_started` meets its contract. Its tests say of the fields what Histories says of a state that a start and samples could have left. Assumes nothing.
+-- `RepetitionTest::is_started` meets its contract. Its tests say of the fields what Histories says of a state that a start and samples could have left. Assumes nothing.
 use borrow.Author.Tests.{eq-eqb, eqb-true, le-leb, leb-true}
 use mathlib.Core.Path.{◌≡◌, sym, ◌∙◌}
 use mathlib.Core.Bool.{Bool, true, false, true≢false}
@@ -9,7 +9,7 @@ use Rattle.cutoff.specs.Cutoff.{Entry}
 use Rattle.repetition.specs.declared.step.RepetitionTest.{RepetitionTest}
 use Rattle.repetition.specs.Inner.Started.{Started}
 use Rattle.repetition.proofs.Histories.{Fields, fields_of_lem, started_of}
-use Rattle.repetition.proofs.step.is_started.Goals as goal
+use Rattle.repetition.proofs.step.RepetitionTest.is_started.Goals as goal
 
 abbrev Says : RepetitionTest → Bool → Type 0
 Says st b = (b ≡ true → Started st) × (Started st → b ≡ true)
@@ -31,21 +31,10 @@ counting st e w k = (
 )
 
 pub returns-then-not-is_cutoff : goal.returns-then-not-is_cutoff
-returns-then-not-is_cutoff c =
-    let found = c.is_cutoff in
-    no c.args.state (λ f. true≢false (sym (found.ensures.1 f.entry) ∙ c.if-not-is_cutoff.true))
+returns-then-not-is_cutoff c = no c.args.self (λ f. true≢false (sym (c.is_cutoff.ensures.1 f.entry) ∙ c.if-not-is_cutoff.true))
 
-pub returns-then-state : goal.returns-then-state
-returns-then-state c = no c.args.state (λ f. omega (arith, f.within, c.if-state.true))
-
-pub returns-then-state-eq0 : goal.returns-then-state-eq0
-returns-then-state-eq0 c =
-    let found = c.is_cutoff in
-    blank c.args.state
-    (found.ensures.0 c.if-not-is_cutoff.false) (omega arith) c.if-state-eq0.true
+pub returns-then-self-eq0 : goal.returns-then-self-eq0
+returns-then-self-eq0 c = blank c.args.self (c.is_cutoff.ensures.0 c.if-not-is_cutoff.false) (omega arith) c.if-self-eq0.true
 
 pub returns : goal.returns
-returns c =
-    let found = c.is_cutoff in
-    counting c.args.state
-    (found.ensures.0 c.if-not-is_cutoff.false) (omega arith) c.if-state-eq0.false
+returns c = counting c.args.self (c.is_cutoff.ensures.0 c.if-not-is_cutoff.false) (omega arith) c.if-self-eq0.false
