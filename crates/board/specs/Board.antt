@@ -7,7 +7,7 @@ use Rattle.answer.specs.Numbers.{done, out_of_range, not_run, bad_width, given}
 use Rattle.answer.specs.Refused.{minus_one}
 use Rattle.answer.specs.declared.Answer.{Answer}
 use Rattle.capture.specs.Limit.{no_width}
-use Rattle.board.specs.declared.Figure.{Figure}
+use Rattle.board.specs.declared.given.Figure.{Figure}
 
 -- the answer of a number that is not 0
 abbrev pub refused_figure : ℕ → Figure

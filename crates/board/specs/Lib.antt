@@ -1,1 +1,2 @@
 pub mod Board
+pub mod Given

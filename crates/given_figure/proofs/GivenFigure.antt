@@ -21,7 +21,7 @@ use Rattle.answer.specs.declared.Answer.{Answer}
 use Rattle.answer.proofs.Order.{passed}
 use Rattle.capture.specs.Limit.{no_width}
 use Rattle.capture.proofs.Limits.{Width, width_taken}
-use Rattle.board.specs.declared.Figure.{Figure}
+use Rattle.board.specs.declared.given.Figure.{Figure}
 use Rattle.board.specs.Board.{ran, in_range, entry, smaller, per_symbol, first_of, refusal_of, refusal, refused_figure, all_in_range, all_ran, figure_number, smallest, figure_of}
 use Rattle.given_figure.proofs.Smaller.{smaller_below, smaller_has}
 

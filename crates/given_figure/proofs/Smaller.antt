@@ -5,7 +5,7 @@ use lib.Dec.{T}
 use lib.Ieee.{is_nan, lt, le}
 use Rattle.rounding.proofs.Order.{le_itself, le_of_not_lt}
 use Rattle.rounding.proofs.Compare.{le_of_lt}
-use Rattle.board.specs.declared.Figure.{Figure}
+use Rattle.board.specs.declared.given.Figure.{Figure}
 use Rattle.board.specs.Board.{smaller}
 
 pub smaller_below : (a b : Figure) → T (not (is_nan a.value)) → T (not (is_nan b.value))

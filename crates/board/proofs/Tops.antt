@@ -1,0 +1,12 @@
+-- The tops of the ranges, as the code has them. Assumes nothing.
+use mathlib.Core.Path.{◌≡◌, refl}
+use lib.Ieee.{binary64, of_bits}
+use Rattle.rounding.specs.Doubles.{one, eight}
+
+pub one_is : of_bits binary64 0x3ff0000000000000 ≡ one
+unfolding of_bits
+one_is = refl
+
+pub eight_is : of_bits binary64 0x4020000000000000 ≡ eight
+unfolding of_bits
+eight_is = refl
