@@ -74,7 +74,7 @@ impl RepetitionTest {
     }
 
     // Whether a start and samples could have left the state.
-    pub fn is_started(self) -> bool
+    fn is_started(self) -> bool
         ensures { (result ≡ true → Started self) × (Started self → result ≡ true) }
     {
         if !is_cutoff(self.cutoff) {
