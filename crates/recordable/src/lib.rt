@@ -23,13 +23,15 @@ pub enum Held {
 }
 
 // A float in 0..top; a NaN is not.
+#[tactic(auto, unfolding(crate::specs::Recordable::within))]
 fn is_within(x: f64, top: f64) -> bool
     ensures { result ≡ within x top }
 {
-    if 0.0 <= x { x <= top } else { false }
+    0.0 <= x && x <= top
 }
 
 // What stands where there is no float.
+#[tactic(auto, using(crate::proofs::Floats::minus_one_is))]
 fn is_none(x: f64) -> bool
     ensures { result ≡ eq x minus_one }
 {
@@ -37,110 +39,68 @@ fn is_none(x: f64) -> bool
 }
 
 // p_local is -1.0 where it is not solved.
+#[tactic(auto, using(crate::proofs::Floats::one_is))]
 fn is_local(x: f64) -> bool
     ensures { result ≡ (eq x minus_one || within x one) }
 {
-    if is_none(x) {
-        return true;
-    }
-    is_within(x, 1.0)
+    is_none(x) || is_within(x, 1.0)
 }
 
 // Whether the four floats are in their ranges.
-fn are_likelihoods(e: Estimate) -> bool
-    ensures { result ≡ likelihoods e }
+#[tactic(auto, using(crate::proofs::Floats::one_is, crate::proofs::Floats::eight_is), unfolding(crate::specs::Recordable::likelihoods))]
+fn are_likelihoods(e: &Estimate) -> bool
+    ensures { result ≡ likelihoods e.now }
 {
-    if !is_within(e.p_global, 1.0) {
-        return false;
-    }
-    if !is_within(e.p_global_prime, 1.0) {
-        return false;
-    }
-    if !is_local(e.p_local) {
-        return false;
-    }
-    is_within(e.min_entropy, 8.0)
+    is_within(e.p_global, 1.0)
+        && is_within(e.p_global_prime, 1.0)
+        && is_local(e.p_local)
+        && is_within(e.min_entropy, 8.0)
 }
 
 // Whether an answer of number 0 can be.
 #[tactic(auto, unfolding(crate::specs::Recordable::as_ran))]
-fn is_as_ran(a: Answer) -> bool
-    ensures { result ≡ as_ran a }
+fn is_as_ran(a: &Answer) -> bool
+    ensures { result ≡ as_ran a.now }
 {
-    let e = a.estimate;
-    if a.place != 0 {
-        return false;
-    }
-    if impossible_counts(e.c, e.n, e.max_run_len, a.k) {
-        return false;
-    }
-    if a.rounds <= ROUND_LIMIT {
-        return are_likelihoods(e);
-    }
-    false
-}
-
-// Whether the four floats are -1.0.
-fn has_no_floats(e: Estimate) -> bool
-    ensures { result ≡ (eq e.p_global minus_one && (eq e.p_global_prime minus_one &&
-        (eq e.p_local minus_one && eq e.min_entropy minus_one))) }
-{
-    if !is_none(e.p_global) {
-        return false;
-    }
-    if !is_none(e.p_global_prime) {
-        return false;
-    }
-    if !is_none(e.p_local) {
-        return false;
-    }
-    is_none(e.min_entropy)
+    let e = &a.estimate;
+    a.place == 0
+        && !impossible_counts(e.c, e.n, e.max_run_len, a.k)
+        && a.rounds <= ROUND_LIMIT
+        && are_likelihoods(e)
 }
 
 // Whether the counts are 0 and the four floats -1.0.
 #[tactic(auto, unfolding(crate::specs::Recordable::blank))]
-fn is_blank(e: Estimate) -> bool
-    ensures { result ≡ blank e }
+fn is_blank(e: &Estimate) -> bool
+    ensures { result ≡ blank e.now }
 {
-    if e.c != 0 {
-        return false;
-    }
-    if e.n != 0 {
-        return false;
-    }
-    if e.max_run_len != 0 {
-        return false;
-    }
-    has_no_floats(e)
+    e.c == 0
+        && e.n == 0
+        && e.max_run_len == 0
+        && is_none(e.p_global)
+        && is_none(e.p_global_prime)
+        && is_none(e.p_local)
+        && is_none(e.min_entropy)
 }
 
 // Whether the place is one of a capture, for number 3, and else 0.
 #[tactic(auto, unfolding(crate::specs::Recordable::placed, capture::specs::Limit::symbol_limit))]
-fn is_placed(number: u64, place: u64) -> bool
-    ensures { result ≡ placed number place }
+fn is_placed(a: &Answer) -> bool
+    ensures { result ≡ placed a.now.number a.now.place }
 {
-    if number == TOO_WIDE {
-        return place < SYMBOL_LIMIT as u64;
+    if a.number == TOO_WIDE {
+        a.place < SYMBOL_LIMIT as u64
+    } else {
+        a.place == 0
     }
-    place == 0
 }
 
 // Whether the fields are those of a number other than 0.
 #[tactic(auto, unfolding(crate::specs::Recordable::as_refused))]
-fn is_as_refused(a: Answer) -> bool
-    ensures { result ≡ as_refused a }
+fn is_as_refused(a: &Answer) -> bool
+    ensures { result ≡ as_refused a.now }
 {
-    let e = a.estimate;
-    if !is_placed(a.number, a.place) {
-        return false;
-    }
-    if a.k != 0 {
-        return false;
-    }
-    if a.rounds != 0 {
-        return false;
-    }
-    is_blank(e)
+    is_placed(a) && a.k == 0 && a.rounds == 0 && is_blank(&a.estimate)
 }
 
 // Whether a record may hold an answer; else it is number 9.
@@ -149,30 +109,22 @@ pub fn is_recordable(a: Answer) -> bool
     ensures { result ≡ recordable a }
 {
     if a.number == DONE {
-        return is_as_ran(a);
+        is_as_ran(&a)
+    } else {
+        answer::is_given(a.number) && is_as_refused(&a)
     }
-    if answer::is_given(a.number) {
-        return is_as_refused(a);
-    }
-    false
 }
 
 // Whether who predicted can be: where there is no winner there is no score, and an answer other than 0 has no winner.
 #[tactic(auto, unfolding(crate::specs::Recordable::won))]
-fn is_won(a: Answer) -> bool
-    ensures { result ≡ won a }
+fn is_won(a: &Answer) -> bool
+    ensures { result ≡ won a.now }
 {
-    let e = a.estimate;
     if a.winner == 0 {
-        return a.score == 0;
+        a.score == 0
+    } else {
+        a.number == DONE && a.winner <= WINNER_LIMIT && a.score <= a.estimate.n
     }
-    if a.number != DONE {
-        return false;
-    }
-    if a.winner <= WINNER_LIMIT {
-        return a.score <= e.n;
-    }
-    false
 }
 
 // Whether a record may hold an answer that was read from it: who predicted is there just where the record tells it.
@@ -180,13 +132,7 @@ fn is_won(a: Answer) -> bool
 pub fn is_readable(a: Answer, tells: bool) -> bool
     ensures { result ≡ holdable tells (held_as tells a) }
 {
-    if is_recordable(a) {
-        if tells {
-            return is_won(a);
-        }
-        return true;
-    }
-    false
+    is_recordable(a) && (!tells || is_won(&a))
 }
 
 // Whether a record that tells who predicted, or one that does not, may hold an answer; else it is number 9.
@@ -195,12 +141,7 @@ pub fn is_holdable(held: Held, tells: bool) -> bool
     ensures { result ≡ holdable tells held }
 {
     match held {
-        Held::Unnamed(a) => {
-            if tells {
-                return false;
-            }
-            is_readable(a, false)
-        }
+        Held::Unnamed(a) => !tells && is_readable(a, false),
         Held::Named(a) => is_readable(a, true),
     }
 }
