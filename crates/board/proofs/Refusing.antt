@@ -9,7 +9,7 @@ use Rattle.answer.specs.Results.{number_of}
 use Rattle.answer.specs.declared.Refusal.{Refusal}
 use Rattle.answer.specs.declared.Refusal.TheVariants.{TooLong, TooShort, TooWide, Impossible, OutOfRange, NotRun, BadWidth, BadFrame, BadAnswer, BadState}
 use Rattle.board.specs.Board.{first_of}
-use Rattle.board.specs.Given.{number_told, place_told}
+use Rattle.board.specs.Inner.Told.{number_told, place_told}
 
 is_refused : (e : Refusal) → eqb (number_of e) 0 ≡ false
 is_refused TooLong = refl

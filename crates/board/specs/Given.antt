@@ -1,5 +1,5 @@
 -- What the board figure is to a caller that has no enum: the figure of what is given, or of a refusal, and the place that a refusal names. Definitions only.
-use Rattle.std.specs.Prelude.{ℕ, cond, eqb, Option, None, Some, Result, Ok, Err}
+use Rattle.std.specs.Prelude.{ℕ, cond, eqb, Result, Ok, Err}
 use Rattle.answer.specs.Numbers.{too_wide}
 use Rattle.answer.specs.Results.{number_of, place_of}
 use Rattle.answer.specs.declared.Answer.{Answer}
@@ -29,15 +29,6 @@ figure_in (Err e) = refused_figure (number_of e)
 abbrev pub place_in : Result Given Refusal → ℕ
 place_in (Ok g) = 0
 place_in (Err e) = place_of e
-
--- a refusal by its number, and 0 where there is none; and its place
-abbrev pub number_told : Option Refusal → ℕ
-number_told None = 0
-number_told (Some e) = number_of e
-
-abbrev pub place_told : Option Refusal → ℕ
-place_told None = 0
-place_told (Some e) = place_of e
 
 -- the place that an answer names: number 3
 abbrev pub place_of_answer : Answer → ℕ

@@ -1,7 +1,8 @@
 // The four answers.
 ghost use Rattle.std.specs.Prelude.{◌≡◌};
 ghost use Rattle.board.specs.Board.{all_in_range, all_ran, in_range, per_symbol, ran, refusal, refusal_of, smallest};
-ghost use Rattle.board.specs.Given.{entry_of, number_told, place_of_answer, place_told, refused_place};
+ghost use Rattle.board.specs.Given.{entry_of, place_of_answer, refused_place};
+ghost use Rattle.board.specs.Inner.Told.{number_told, place_told};
 
 use crate::given::{Given, Which};
 use answer::{
