@@ -1,3 +1,3 @@
-pub mod Examples
-pub mod Lines
 pub mod Numerals
+pub mod Lines
+pub mod Examples

@@ -1,16 +1,19 @@
 -- Digits and how many there are. Assumes nothing.
 use mathlib.Core.Path.{◌≡◌, refl, sym, ap, ◌∙◌}
 use mathlib.Core.Bool.{Bool, cond}
-use mathlib.Core.List.{List, [], ◌∷◌, ◌++◌}
-use Prim.Native.Nat.{ℕ, zero, suc, ◌+◌, ◌*◌, ◌/◌, ◌%◌, ◌^◌, ◌≤◌, ◌<◌}
-use native.Mathlib.Nat.{pow-succ'}
+use mathlib.Core.List.{List, [], ◌∷◌, ◌++◌, append_assoc}
+use Prim.Native.Nat.{ℕ, zero, suc, ◌+◌, ◌-◌, ◌*◌, ◌/◌, ◌%◌, ◌^◌, ◌≤◌, ◌<◌}
+use native.Mathlib.Nat.{div-one, div-div-eq-div-mul, mul_comm, pow-succ'}
+use lib.Pow.{pow-add}
+use Rattle.std.proofs.Common.{add-one}
 use native.Mathlib.Decide.{dec_le}
 use native.Mathlib.Omega.{arith}
 use lib.Dec.{ltb}
 use lib.Ieee.{Float, binary64, to_bits}
 use lib.ListN.{length, length-append}
-use lib.Seq.{sets}
 use borrow.Author.Tests.{lt-ltb, le-ltb}
+use Rattle.std.specs.Fmt.{decimal as decimal_of}
+use Rattle.std.proofs.lemmas.Fmt.{decimal_by_steps}
 use Rattle.report_line.specs.Numerals.{glyph, digits, places_in, places, decimal, pattern}
 
 -- ---- digits
@@ -76,19 +79,62 @@ few_places (suc k) n h = pick (dec_le 10 n) (few_places k (n / 10))
 pub twenty_places : (n : ℕ) → n < 2 ^ 64 → places n ≤ 20
 twenty_places n h = few_places 19 n (omega arith)
 
--- as many digits as n has places
-pub stored_decimal : (l : List ℕ) (at n k : ℕ) → k ≡ places n → sets l at (digits 10 k n) ≡ sets l at (decimal n)
-unfolding decimal
-stored_decimal l at n k e = ap (λ (j : ℕ). sets l at (digits 10 j n)) e
-
-pub decimal_length : (n : ℕ) → length (decimal n) ≡ places n
-unfolding decimal
-decimal_length n = digits_length 10 (places n) n
-
-pub stored_pattern : (l : List ℕ) (at : ℕ) (x : Float) (n : ℕ) → n ≡ to_bits binary64 x → sets l at (digits 16 16 n) ≡ sets l at (pattern x)
-unfolding pattern
-stored_pattern l at x n e = ap (λ (m : ℕ). sets l at (digits 16 16 m)) e
-
 pub pattern_length : (x : Float) → length (pattern x) ≡ 16
 unfolding pattern
 pattern_length x = digits_length 16 16 (to_bits binary64 x)
+
+-- ---- what std writes of a number is its decimal
+pub same_decimal : (n : ℕ) → n < 2 ^ 64 → decimal_of n ≡ decimal n
+unfolding decimal digits
+same_decimal n h = decimal_by_steps (λ (n : ℕ) (ds : List ℕ). ds ≡ digits 10 (places n) n) one more n h
+  where
+    one : (n : ℕ) → n < 10 → ((48 + n) ∷ []) ≡ digits 10 (places n) n
+    one n h =
+        let itself : n % 10 ≡ n = omega arith in
+        let last : glyph (n % 10) ≡ 48 + n = glyph_low (n % 10) (omega arith) ∙ ap (λ (z : ℕ). 48 + z) itself in
+        sym (ap (λ (k : ℕ). digits 10 k n) (one_place n h) ∙ ap (λ (z : ℕ). z ∷ []) last)
+
+    more : (n : ℕ) (ds : List ℕ) → 10 ≤ n → ds ≡ digits 10 (places (n / 10)) (n / 10) → ds ++ ((48 + n % 10) ∷ []) ≡ digits 10 (places n) n
+    more n ds h e =
+        ap (λ (l : List ℕ). l ++ ((48 + n % 10) ∷ [])) e
+        ∙ ap (λ (d : ℕ). digits 10 (places (n / 10)) (n / 10) ++ (d ∷ [])) (sym (glyph_low (n % 10) (omega arith)))
+        ∙ sym (ap (λ (k : ℕ). digits 10 k n) (more_places n h))
+
+pub numbered : (l : List ℕ) (n after : ℕ) → n < 2 ^ 64 → (l ++ decimal_of n) ++ (after ∷ []) ≡ l ++ (decimal n ++ (after ∷ []))
+numbered l n after h = ap (λ (z : List ℕ). (l ++ z) ++ (after ∷ [])) (same_decimal n h) ∙ append_assoc l (decimal n) (after ∷ [])
+
+-- ---- hex digit by hex digit
+hex_power : (k : ℕ) → 2 ^ (4 * k) ≡ 16 ^ k
+hex_power zero = refl
+hex_power (suc k) =
+    let four_more : 4 * suc k ≡ 4 * k + 4 = omega arith in
+    ap (λ (z : ℕ). 2 ^ z) four_more ∙ pow-add 2 (4 * k) 4 ∙ ap (λ (z : ℕ). z * 16) (hex_power k) ∙ mul_comm (16 ^ k) 16 ∙ sym (pow-succ' 16 k)
+
+shift : (i : ℕ) → i < 16 → 2 ^ (60 - 4 * i) ≡ 16 ^ (15 - i)
+shift i h = let fours : 60 - 4 * i ≡ 4 * (15 - i) = omega arith in ap (λ (z : ℕ). 2 ^ z) fours ∙ hex_power (15 - i)
+
+tail : (b i : ℕ) → i < 16 → b / 2 ^ (60 - 4 * i) / 16 ≡ b / 16 ^ (16 - i)
+tail b i h =
+    let one_more : suc (15 - i) ≡ 16 - i = omega arith in
+    div-div-eq-div-mul b (2 ^ (60 - 4 * i)) 16
+    ∙ ap (λ (z : ℕ). b / z) (ap (λ (z : ℕ). z * 16) (shift i h) ∙ mul_comm (16 ^ (15 - i)) 16 ∙ sym (pow-succ' 16 (15 - i)) ∙ ap (λ (z : ℕ). 16 ^ z) one_more)
+
+head : (b i : ℕ) → i < 16 → b / 2 ^ (60 - 4 * i) ≡ b / 16 ^ (16 - (i + 1))
+head b i h = let same : 15 - i ≡ 16 - (i + 1) = omega arith in ap (λ (z : ℕ). b / z) (shift i h ∙ ap (λ (z : ℕ). 16 ^ z) same)
+
+pub next_digit : (l : List ℕ) (b i : ℕ) → i < 16
+    → (l ++ digits 16 i (b / 16 ^ (16 - i))) ++ (glyph (b / 2 ^ (60 - 4 * i) % 16) ∷ []) ≡ l ++ digits 16 (i + 1) (b / 16 ^ (16 - (i + 1)))
+next_digit l b i h =
+    let n = b / 2 ^ (60 - 4 * i) in
+    append_assoc l (digits 16 i (b / 16 ^ (16 - i))) (glyph (n % 16) ∷ [])
+    ∙ ap (λ (z : ℕ). l ++ (digits 16 i z ++ (glyph (n % 16) ∷ []))) (sym (tail b i h))
+    ∙ ap (λ (z : List ℕ). l ++ z) (sym (last_digit 16 (i + 1) i n (add-one i)))
+    ∙ ap (λ (z : ℕ). l ++ digits 16 (i + 1) z) (head b i h)
+
+-- all sixteen, and a byte behind them
+pub whole_pattern : (l t : List ℕ) (x : Float) (b i after : ℕ) → b ≡ to_bits binary64 x → i ≡ 16 → t ≡ l ++ digits 16 i (b / 16 ^ (16 - i))
+    → t ++ (after ∷ []) ≡ l ++ (pattern x ++ (after ∷ []))
+unfolding pattern
+whole_pattern l t x b i after e f g =
+    ap (λ (z : List ℕ). z ++ (after ∷ [])) (g ∙ ap (λ (z : ℕ). l ++ digits 16 z (b / 16 ^ (16 - z))) f ∙ ap (λ (z : ℕ). l ++ digits 16 16 z) (div-one b ∙ e))
+    ∙ append_assoc l (digits 16 16 (to_bits binary64 x)) (after ∷ [])

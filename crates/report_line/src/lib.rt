@@ -2,103 +2,89 @@
 // min-entropy in hex.
 #![tactic(auto)]
 
-ghost use Rattle.std.specs.Prelude.{◌≡◌, [], ◌∷◌, ◌++◌, ◌+◌, ◌≤◌, ◌<◌, length};
-ghost use Rattle.std.proofs.lemmas.List.Edits.{sets};
-ghost use Rattle.report_line.specs.Line.{counts_of, estimates_of, line_in, length_in};
-ghost use Rattle.report_line.specs.Numerals.{decimal as Numerals·decimal, digits as Numerals·digits, glyph as Numerals·glyph};
-ghost use Rattle.report_line.specs.Numerals.{pattern as Numerals·pattern, places as Numerals·places};
+ghost use Rattle.std.specs.Prelude.{◌≡◌, [], ◌∷◌, ◌++◌, ◌+◌, ◌≤◌, ◌<◌, ◌↔◌, length, IsNone, IfSome, unwrap_or};
+ghost use Rattle.arrayvec.specs.ArrayVec.{array_vec_len};
+ghost use Rattle.report_line.specs.Line.{double, length_in, line_in, line_of, longest, number};
+ghost use Rattle.report_line.specs.Numerals.{glyph};
 
-use answer::{Answer, Estimate};
+use answer::Answer;
+use arrayvec::ArrayVec;
+use itoa::Buffer;
 
 // The longest line: six numbers of at most 20 digits, four of 16, a space or the line's end after each.
 pub const LONGEST: usize = 194;
 
+#[tactic(auto, unfolding(crate::specs::Numerals::glyph))]
 fn glyph(d: u64) -> u8
     requires { d < 16 }
-    ensures { result ≡ Numerals·glyph d }
+    ensures { result ≡ glyph d }
 {
-    if d < 10 { 48 + d as u8 } else { 55 + d as u8 }
-}
-
-// How many decimal digits n has.
-fn places(n: u64) -> usize
-    ensures { (result ≡ Numerals·places n) × (result ≤ 20) }
-{
-    if n < 10 {
-        return 1;
+    if d < 10 {
+        b'0' + d as u8
+    } else {
+        b'A' + (d - 10) as u8
     }
-    places(n / 10) + 1
 }
 
-// Puts the last k digits of n, in a base, into `out` from a place on.
-fn digits(n: u64, base: u64, k: usize, out: &mut [u8], at: usize)
-    requires { (0 < base) × (base ≤ 16) × (at + k ≤ length out.old) }
-    ensures { out.new ≡ sets out.old at (Numerals·digits base k n) }
+// Puts n in decimal, and a space.
+#[tactic(auto, using(crate::proofs::Numerals::numbered))]
+fn push_number(text: &mut ArrayVec<u8, LONGEST>, n: u64)
+    requires { array_vec_len text.old + 21 ≤ 194 }
+    ensures items { text.new.items ≡ text.old.items ++ number n }
+    ensures len { array_vec_len text.new ≤ array_vec_len text.old + 21 }
 {
-    if k == 0 {
-        return;
+    let mut buffer = Buffer::new();
+    text.try_extend_from_slice(buffer.format(n).as_bytes())
+        .unwrap();
+    text.push(b' ');
+}
+
+// Puts a double's bits as 16 hex digits, and a byte after them.
+#[tactic(auto, using(crate::proofs::Numerals::next_digit))]
+fn push_double(text: &mut ArrayVec<u8, LONGEST>, x: f64, after: u8)
+    requires { array_vec_len text.old + 17 ≤ 194 }
+    ensures items { text.new.items ≡ text.old.items ++ double x after }
+    ensures len { array_vec_len text.new ≡ array_vec_len text.old + 17 }
+{
+    let bits = pattern::bits_of(x);
+    for i in 0..16u32 {
+        text.push(glyph((bits >> (60 - 4 * i)) % 16));
     }
-    digits(n / base, base, k - 1, out, at);
-    out[at + (k - 1)] = glyph(n % base);
+    text.push(after);
 }
 
-// Puts n in decimal, and a byte after it. Returns the place that is next.
-fn decimal(n: u64, out: &mut [u8], at: usize, after: u8) -> usize
-    requires { at + 21 ≤ length out.old }
-    ensures { (result ≡ at + length (Numerals·decimal n ++ (after ∷ []))) ×
-        (out.new ≡ sets out.old at (Numerals·decimal n ++ (after ∷ []))) × (result ≤ at + 21) }
-{
-    let k = places(n);
-    digits(n, 10, k, out, at);
-    out[at + k] = after;
-    at + k + 1
-}
-
-// Puts a double's bits as 16 hex digits, and a byte after them. Returns the place that is next.
-fn pattern(x: f64, out: &mut [u8], at: usize, after: u8) -> usize
-    requires { at + 17 ≤ length out.old }
-    ensures { (result ≡ at + length (Numerals·pattern x ++ (after ∷ []))) ×
-        (out.new ≡ sets out.old at (Numerals·pattern x ++ (after ∷ []))) × (result ≤ at + 17) }
-{
-    digits(pattern::bits_of(x), 16, 16, out, at);
-    out[at + 16] = after;
-    at + 17
-}
-
-// Puts the six numbers.
-fn counts(a: Answer, out: &mut [u8]) -> usize
-    requires { 126 ≤ length out.old }
-    ensures { (result ≡ length (counts_of a)) × (out.new ≡ sets out.old 0 (counts_of a)) × (result ≤ 126) }
+// The line of an answer.
+fn text_of(a: Answer) -> ArrayVec<u8, LONGEST>
+    ensures { result.items ≡ line_of a }
 {
     let e = a.estimate;
-    let c = decimal(a.number, out, 0, b' ');
-    let n = decimal(e.c, out, c, b' ');
-    let run = decimal(e.n, out, n, b' ');
-    let k = decimal(e.max_run_len, out, run, b' ');
-    let rounds = decimal(a.k, out, k, b' ');
-    decimal(a.rounds, out, rounds, b' ')
-}
-
-// Puts the four doubles and the line's end.
-fn estimates(e: Estimate, out: &mut [u8], at: usize) -> usize
-    requires { at + 68 ≤ length out.old }
-    ensures { (result ≡ at + length (estimates_of e)) × (out.new ≡ sets out.old at (estimates_of e)) × (result ≤ at + 68) }
-{
-    let prime = pattern(e.p_global, out, at, b' ');
-    let local = pattern(e.p_global_prime, out, prime, b' ');
-    let entropy = pattern(e.p_local, out, local, b' ');
-    pattern(e.min_entropy, out, entropy, b'\n')
+    let mut text = ArrayVec::new();
+    push_number(&mut text, a.number);
+    push_number(&mut text, e.c);
+    push_number(&mut text, e.n);
+    push_number(&mut text, e.max_run_len);
+    push_number(&mut text, a.k);
+    push_number(&mut text, a.rounds);
+    push_double(&mut text, e.p_global, b' ');
+    push_double(&mut text, e.p_global_prime, b' ');
+    push_double(&mut text, e.p_local, b' ');
+    push_double(&mut text, e.min_entropy, b'\n');
+    text
 }
 
 // Puts the line of an answer at the start of `out`, and returns its length. An `out` shorter than the longest line
-// stays as it is, and the length is 0.
-pub fn line(a: Answer, out: &mut [u8]) -> usize
-    ensures { (result ≡ length_in a out.old) × (out.new ≡ line_in a out.old) }
+// stays as it is.
+#[tactic(auto, using(crate::proofs::Lines::no_length, crate::proofs::Lines::no_line, crate::proofs::Lines::whole_length, crate::proofs::Lines::whole_line))]
+pub fn line(a: Answer, out: &mut [u8]) -> Option<usize>
+    ensures refused { IsNone result ↔ (length out.old < longest) }
+    ensures len { unwrap_or result 0 ≡ length_in a out.old }
+    ensures within { IfSome result (λ n. n ≤ length out.new) }
+    ensures text { out.new ≡ line_in a out.old }
 {
     if out.len() < LONGEST {
-        return 0;
+        return None;
     }
-    let e = a.estimate;
-    let at = counts(a, out);
-    estimates(e, out, at)
+    let text = text_of(a);
+    out[..text.len()].copy_from_slice(text.as_slice());
+    Some(text.len())
 }
