@@ -3,93 +3,45 @@
 #![tactic(auto)]
 
 mod captures;
-mod cases;
-mod kinds;
-mod lines;
+mod case;
+mod compare;
+mod expected;
+mod kind;
 mod numbers;
-mod read;
+mod tally;
 
+use case::Case;
 use std::fs::File;
 use std::io;
+use std::io::Read;
+use tally::Tally;
 
-// What a case comes to, and how long it is; a length of 0 says that the list ends within it.
-#[derive(Clone, Copy)]
-struct Outcome {
-    kind: usize,
-    verdict: u8,
-    size: usize,
-}
+// How much of a list is read.
+const ROOM: u64 = 524_288;
 
-// The case at the start of `rest`.
-fn step(rest: &[u8]) -> Outcome {
-    let c = read::header(rest);
-    if rest.len() < c.expected_end {
-        return Outcome {
-            kind: 0,
-            verdict: kinds::LEFT_OUT,
-            size: 0,
-        };
+// Counts every case of the list, up to its end or to a case that it ends within, which is none.
+fn replay(list: &[u8], tally: &mut Tally) -> Option<()> {
+    let mut rest = list;
+    while !rest.is_empty() {
+        let case = Case::split_off(&mut rest)?;
+        tally.count(case.kind, case.verdict());
     }
-    Outcome {
-        kind: c.kind,
-        verdict: cases::verdict(c, rest),
-        size: c.expected_end,
-    }
-}
-
-// Adds one to the count of a kind.
-fn add(counts: &mut [u64; 16], kind: usize) {
-    if kind < 16 {
-        counts[kind] = counts[kind].wrapping_add(1);
-    }
-}
-
-// Counts a case. What was left out, and what differs of all kinds, is counted as kind 0.
-fn count(compared: &mut [u64; 16], differ: &mut [u64; 16], kind: usize, verdict: u8) {
-    if verdict == kinds::LEFT_OUT {
-        add(compared, 0);
-        return;
-    }
-    add(compared, kind);
-    if verdict == kinds::DIFFERS {
-        add(differ, kind);
-        add(differ, 0);
-    }
-}
-
-// Every case of the list. Returns whether it ends where a case ends.
-fn replay(bytes: &[u8], compared: &mut [u64; 16], differ: &mut [u64; 16]) -> bool {
-    let mut at: usize = 0;
-    while at < bytes.len() {
-        let s = step(&bytes[at..]);
-        let size = s.size;
-        if size == 0 {
-            return false;
-        }
-        if bytes.len() - at < size {
-            return false;
-        }
-        count(compared, differ, s.kind, s.verdict);
-        at += size;
-    }
-    true
+    Some(())
 }
 
 // Replays the list and prints what it comes to.
-fn report(rt: &impl Print, bytes: &[u8]) -> io::Result<()> {
-    let mut compared = [0u64; 16];
-    let mut differ = [0u64; 16];
-    if !replay(bytes, &mut compared, &mut differ) {
+fn report(rt: &impl Print, list: &[u8]) -> io::Result<()> {
+    let mut tally = Tally::default();
+    if replay(list, &mut tally).is_none() {
         println!(rt; "answers.bin ends within a case")?;
     }
-    lines::print_functions(rt, &compared, &differ)?;
-    lines::print_estimators(rt, &compared, &differ)?;
-    lines::print_total(rt, compared[0], differ[0])
+    tally.print(rt)
 }
 
 fn main(rt: HostRuntime) -> io::Result<()> {
-    let mut file = File::open(&rt, "answers.bin")?;
-    let mut bytes = read::room();
-    let n = reading::fill(&mut file, &mut bytes)?;
-    report(&rt, &bytes[..n])
+    let mut list = Vec::new(rt.alloc());
+    File::open(&rt, "answers.bin")?
+        .take(ROOM)
+        .read_to_end(&mut list)?;
+    report(&rt, &list)
 }

@@ -1,32 +1,28 @@
-// Little-endian numbers in a slice; 0 where they would stand past its end.
-ghost use Rattle.std.specs.Prelude.{◌<◌};
+// Little-endian numbers at the start of a slice, which is then what follows them. None where too few bytes are left.
+ghost use Rattle.std.specs.Prelude.{◌≡◌, IfSome, take};
+ghost use Rattle.std.specs.Int.{from_le_bytes, w32, w64};
 
-fn wide(x: u8) -> u64
-    ensures { result < 256 }
-{
-    x as u64
+pub fn byte(bytes: &mut &[u8]) -> Option<u8> {
+    bytes.split_off_first().copied()
 }
 
-// The byte at a place.
-pub fn byte(bytes: &[u8], at: usize) -> u64
-    ensures { result < 256 }
+pub fn four(bytes: &mut &[u8]) -> Option<u32>
+    ensures { IfSome result (λ n. n ≡ from_le_bytes w32 (take 4 bytes.old.now)) }
 {
-    if at < bytes.len() { wide(bytes[at]) } else { 0 }
+    let (number, rest) = bytes.split_first_chunk()?;
+    *bytes = rest;
+    Some(u32::from_le_bytes(*number))
 }
 
-// The number of four bytes.
-pub fn four(bytes: &[u8], at: usize) -> u64
-    requires { at < 4294967296 }
-    ensures { result < 4294967296 }
+pub fn word(bytes: &mut &[u8]) -> Option<u64>
+    ensures { IfSome result (λ n. n ≡ from_le_bytes w64 (take 8 bytes.old.now)) }
 {
-    let low = byte(bytes, at) + byte(bytes, at + 1) * 256;
-    let high = byte(bytes, at + 2) + byte(bytes, at + 3) * 256;
-    low + high * 65536
+    let (number, rest) = bytes.split_first_chunk()?;
+    *bytes = rest;
+    Some(u64::from_le_bytes(*number))
 }
 
-// Word number i, of eight bytes.
-pub fn word(words: &[u8], i: usize) -> u64
-    requires { i < 256 }
-{
-    four(words, i * 8) + four(words, i * 8 + 4) * 4294967296
+// The double of a word.
+pub fn double(bytes: &mut &[u8]) -> Option<f64> {
+    Some(pattern::double_of(word(bytes)?))
 }

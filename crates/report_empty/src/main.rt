@@ -1,4 +1,5 @@
 // The MultiMCW report of document 01, run on no bytes.
+// Kept: (a) a program runs on one stdin, and what it prints may not change; report, report_empty and report_long differ in those alone.
 #![tactic(auto)]
 
 use std::io;

@@ -1,0 +1,95 @@
+// A case of the list.
+ghost use Rattle.std.specs.Prelude.{◌<◌, IfSome, length};
+
+use crate::captures::{LONGEST, Rule};
+use crate::compare;
+use crate::kind::Kind;
+use crate::numbers::{byte, four};
+use crate::tally::Verdict;
+
+// How many bytes say the kind, the capture's shape, width, rule and length, the checks, and how long the parts are.
+const HEADER: usize = 24;
+
+// The shape of a capture that is stored.
+const STORED: u8 = 255;
+
+#[derive(Clone, Copy)]
+pub struct Case<'a> {
+    // the kind's number
+    pub kind: u8,
+    pub width: u8,
+    pub checks: u8,
+    // of a capture that is not stored
+    rule: Option<Rule>,
+    pub words: &'a [u8],
+    stored: &'a [u8],
+    pub expected: &'a [u8],
+}
+
+impl<'a> Case<'a> {
+    // Takes the case at the start of a list off it; none where the list ends within it.
+    pub fn split_off(list: &mut &'a [u8]) -> Option<Case<'a>>
+        ensures { IfSome result (λ c. length list.new.now < length list.old.now) }
+    {
+        let mut header = list.split_off(..HEADER)?;
+        let kind = byte(&mut header)?;
+        let shape = byte(&mut header)?;
+        let width = byte(&mut header)?;
+        let checks = byte(&mut header)?;
+        let values = four(&mut header)?;
+        let length = four(&mut header)? as usize;
+        let seed = four(&mut header)?;
+        let expected = four(&mut header)? as usize;
+        let words = list.split_off(..four(&mut header)? as usize * 8)?;
+        let is_stored = shape == STORED;
+        let stored = list.split_off(..if is_stored { length } else { 0 })?;
+        let expected = list.split_off(..expected)?;
+        let rule = Rule {
+            shape: shape.into(),
+            values: u64::from(values),
+            length,
+            seed,
+        };
+        Some(Case {
+            kind,
+            width,
+            checks,
+            rule: if is_stored { None } else { Some(rule) },
+            words,
+            stored,
+            expected,
+        })
+    }
+
+    // What the case comes to. One with another number of words than its kind has differs, and one of no kind, which is
+    // to have nine, is left out.
+    pub fn verdict(&self) -> Verdict {
+        let kind = Kind::try_from(self.kind).ok();
+        let words = kind.map_or(9, |kind| kind.words());
+        if self.words.len() / 8 != words {
+            return Verdict::Differs;
+        }
+        let Some(kind) = kind else {
+            return Verdict::LeftOut;
+        };
+        match self.rule {
+            None => self.compare(kind, self.stored),
+            Some(rule) => self.by_rule(kind, rule),
+        }
+    }
+
+    // With the capture made by its rule.
+    fn by_rule(&self, kind: Kind, rule: Rule) -> Verdict {
+        if LONGEST < rule.length {
+            return Verdict::LeftOut;
+        }
+        let mut space = [0; LONGEST];
+        let capture = &mut space[..rule.length];
+        rule.fill(capture);
+        self.compare(kind, capture)
+    }
+
+    fn compare(&self, kind: Kind, capture: &[u8]) -> Verdict {
+        Verdict::from(compare::agrees(kind, self, capture).unwrap_or(false))
+    }
+}
