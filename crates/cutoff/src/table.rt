@@ -24,6 +24,7 @@ const CUTOFFS: [u16; 512] = [
     4, 4, 4, 4, 4, 4, 4, 4, 4, 4, 4, 4, 4, 4, 4, 4, 4, 4, 4, 4, 4, 4, 4, 4, 4, 4, 4,
 ];
 
+#[tactic(auto, unfolding(crate::specs::Cutoff::entries))]
 pub fn cutoff_at(entry: usize) -> u16
     requires { (1 ≤ entry) × (entry ≤ entries) }
     ensures { result ≡ cutoff_at entry }

@@ -18,6 +18,7 @@ pub fn fill<R: Read>(input: &mut R, out: &mut [u8]) -> io::Result<usize>
     ensures retried { IfErr result (λ e. error_kind e ≢ ErrorKind.Interrupted) }
 {
     let mut done = 0;
+    // counted, since no measure says that a reader ends
     for _ in 0..u64::MAX {
         if done >= out.len() {
             return Ok(done);

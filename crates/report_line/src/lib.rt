@@ -40,6 +40,7 @@ fn push_number(text: &mut ArrayVec<u8, LONGEST>, n: u64)
 }
 
 // Puts a double's bits as 16 hex digits, and a byte after them.
+// Kept: (a) `line` promises every byte of a lent slice, and `{:016X}` its text only where no writer fails.
 #[tactic(auto, using(crate::proofs::Numerals::next_digit))]
 fn push_double(text: &mut ArrayVec<u8, LONGEST>, x: f64, after: u8)
     requires { array_vec_len text.old + 17 ≤ 194 }
