@@ -28,6 +28,10 @@ holds_start f a e = record { full = length-replicate 256 a; at = λ v l. get_or-
 pub holds_all : (f : List ℕ → ℕ → ℕ) (s : List ℕ) (i : ℕ) {m : List ℕ} → length s ≤ i → Holds (f (take i s)) m → Holds (f s) m
 holds_all f s i {m} l h = subst (λ (t : List ℕ). Holds (f t) m) (take_all i s l) h
 
+-- the symbol at place i
+pub symbol_at : {s : List ℕ} {i x : ℕ} → i < length s → x ≡ get_or s i 0 → x < 256 → SymbolAt s i x
+symbol_at h e l = record { inside = h; here = e; small = l }
+
 -- the symbols up to and with that at place i
 pub take_next : {s : List ℕ} {i x : ℕ} → SymbolAt s i x → take (i + 1) s ≡ take i s ++ (x ∷ [])
 take_next {s} {i} p =

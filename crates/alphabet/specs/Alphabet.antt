@@ -1,6 +1,8 @@
 -- The two numberings of the values of a capture. Definitions only.
-use Rattle.std.specs.Prelude.{ℕ, zero, suc, ◌+◌, Bool, false, cond, ◌||◌, List, [], ◌∷◌, ◌++◌, map, ltb, eqb, length, drop}
+use Rattle.std.specs.Prelude.{ℕ, zero, suc, ◌+◌, Bool, false, cond, ◌||◌, List, [], ◌∷◌, ◌++◌, map, ltb, eqb, length, drop, Result, Ok, Err}
 use Rattle.answer.specs.Numbers.{done, too_long, too_short}
+use Rattle.answer.specs.Results.{number_of}
+use Rattle.answer.specs.declared.Refusal.{Refusal}
 use Rattle.capture.specs.Bits.{one}
 use Rattle.capture.specs.Limit.{over_limit}
 use Rattle.alphabet.specs.declared.Alphabet.{Alphabet}
@@ -50,6 +52,11 @@ alphabet_number s out = cond (over_limit s) too_long (cond (ltb (length out) (le
 -- the answer: the size, or a refusal with size 0
 abbrev pub alphabet_of : List ℕ → List ℕ → Alphabet
 alphabet_of s out = record { number = alphabet_number s out; size = cond (eqb (alphabet_number s out) done) (distinct s) 0 }
+
+-- what C gets of a size, or of a refusal
+abbrev pub alphabet_in : Result ℕ Refusal → Alphabet
+alphabet_in (Ok size) = record { number = done; size = size }
+alphabet_in (Err e) = record { number = number_of e; size = 0 }
 
 -- the output at the end: all as it was on a refusal
 abbrev pub output_of : (List ℕ → List ℕ) → List ℕ → List ℕ → List ℕ

@@ -3,13 +3,14 @@
 #![tactic(auto)]
 
 ghost use Rattle.std.specs.Prelude.{◌≡◌, ◌<◌, length};
+ghost use Rattle.answer.specs.Results.{number_in};
 ghost use Rattle.alphabet.specs.Alphabet.{alphabet_number};
 ghost use Rattle.alphabet.specs.Inner.Numbering.{SymbolAt};
 
-use answer::{DONE, TOO_LONG, TOO_SHORT};
-use capture::bits::{SYMBOL_LIMIT, wide};
+use answer::{DONE, Refusal};
+use capture::refusal::accept_symbols;
 
-// What a translator returns: the number of distinct values.
+// What a translator returns, as C has it: the number of distinct values.
 #[repr(C)]
 #[derive(Clone, Copy)]
 pub struct Alphabet {
@@ -17,17 +18,28 @@ pub struct Alphabet {
     pub size: u64,
 }
 
-// The number by which a translation of `symbols` to `out` is refused, or 0.
-pub fn refusal(symbols: &[u8], out: &[u8]) -> u64
-    ensures { result ≡ alphabet_number symbols.now out.now }
-{
-    if SYMBOL_LIMIT < symbols.len() {
-        TOO_LONG
-    } else if out.len() < symbols.len() {
-        TOO_SHORT
-    } else {
-        DONE
+impl From<Result<u64, Refusal>> for Alphabet {
+    ghost use Rattle.std.specs.Prelude.{◌≡◌};
+    ghost use Rattle.alphabet.specs.Alphabet.{alphabet_in};
+
+    ghost from_gives = { λ found alphabet. alphabet ≡ alphabet_in found };
+
+    fn from(found: Result<u64, Refusal>) -> Alphabet {
+        match found {
+            Ok(size) => Alphabet { number: DONE, size },
+            Err(refusal) => Alphabet {
+                number: refusal.number(),
+                size: 0,
+            },
+        }
     }
+}
+
+// Whether `symbols` are translated to `out`.
+pub fn refusal(symbols: &[u8], out: &[u8]) -> Result<(), Refusal>
+    ensures { number_in result ≡ alphabet_number symbols.now out.now }
+{
+    accept_symbols(symbols, 0, out.len() < symbols.len())
 }
 
 // The symbol at place i, an index of a table of 256.
@@ -35,5 +47,5 @@ pub fn symbol(symbols: &[u8], i: usize) -> usize
     requires { i < length symbols.now }
     ensures { SymbolAt symbols.now i result }
 {
-    wide(symbols[i])
+    usize::from(symbols[i])
 }

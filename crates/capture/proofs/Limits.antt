@@ -9,6 +9,8 @@ use native.Mathlib.Omega.{arith}
 use borrow.Author.Tests.{eqb-false, ltb-false}
 use lib.Dec.{eqb, ltb}
 use Rattle.capture.specs.Limit.{no_width, symbol_limit}
+use lib.ListN.{length}
+use Rattle.capture.specs.Inner.Sources.{IsSource}
 use Rattle.capture.specs.Inner.Spots.{Source}
 
 -- a place of a capture, and eight times as much, are far below what a u64 holds
@@ -34,3 +36,6 @@ unfolding no_width
 width_taken w h =
     let t = (neither (eqb w 0) (ltb 8 w)).0 h in
     record { some = pos_of_ne-zero (eqb-false w 0 t.0); narrow = ltb-false 8 w t.1 }
+
+pub source_asks : (s : List ℕ) (w : ℕ) → length s ≤ symbol_limit → no_width w ≡ false → IsSource s w
+source_asks s w h n = let taken = width_taken w n in record { short = h; some = taken.some; narrow = taken.narrow }

@@ -1,16 +1,18 @@
 -- What is known of a capture that a bitstring track does not refuse. Assumes nothing.
-use mathlib.Core.Path.{◌≡◌}
-use mathlib.Core.Bool.{Bool, false}
+use mathlib.Core.Path.{◌≡◌, ◌∙◌}
+use mathlib.Core.Bool.{Bool, true, false, cond}
 use mathlib.Core.List.{List}
-use Prim.Native.Nat.{ℕ, ◌*◌, ◌≤◌}
+use Prim.Native.Nat.{ℕ, ◌*◌, ◌≤◌, ◌<◌}
 use native.Mathlib.Nat.{le_refl}
-use borrow.Author.Tests.{ltb-false}
+use borrow.Author.Tests.{ltb-false, lt-ltb, le-ltb}
 use lib.Dec.{ltb}
 use lib.ListN.{length}
 use Rattle.answer.proofs.Order.{passed}
-use Rattle.answer.specs.Numbers.{too_long, too_short, not_run, bad_width}
+use Rattle.answer.specs.Numbers.{done, too_wide, too_long, too_short, not_run, bad_width}
 use Rattle.capture.specs.Inner.Spots.{Source}
-use Rattle.capture.specs.Bits.{bit_count}
+use Rattle.capture.specs.Bits.{bit_count, wide}
+use Rattle.capture.specs.Inner.Sources.{source_refusal}
+use Rattle.capture.proofs.Reading.{taken_first}
 use Rattle.capture.specs.Limit.{no_width, over_limit, symbol_limit}
 use Rattle.capture.specs.Refusals.{bits_refusal}
 use Rattle.capture.proofs.Limits.{Width, width_taken}
@@ -37,3 +39,21 @@ taken s w least short h =
 -- the source of bits that it is
 pub taken_source : {s : List ℕ} {w least : ℕ} {short : Bool} → Taken s w least short → Source s w (length s * w)
 taken_source {s} {w} T = record { short = T.fits; some = T.width.some; narrow = T.width.narrow; within = le_refl (length s * w) }
+
+-- the order past a source's own refusals, test by test
+module _ (s : List ℕ) (w least : ℕ) (short : Bool) (source : source_refusal s w ≡ 0) where
+  past_source : bits_refusal s w least short ≡ cond (ltb (bit_count s w) least) not_run (cond short too_short (cond (wide s w) too_wide done))
+  past_source = taken_first (over_limit s) (no_width w) _ (λ n. n) source
+
+  pub told_few : length s * w < least → bits_refusal s w least short ≡ not_run
+  told_few h = past_source ∙ rw (lt-ltb _ _ h)
+
+  module _ (many : least ≤ length s * w) where
+    pub told_short : short ≡ true → bits_refusal s w least short ≡ too_short
+    told_short h = past_source ∙ rw (le-ltb _ _ many, h)
+
+    pub told_wide : short ≡ false → wide s w ≡ true → bits_refusal s w least short ≡ too_wide
+    told_wide h v = past_source ∙ rw (le-ltb _ _ many, h, v)
+
+    pub told_none : short ≡ false → wide s w ≡ false → bits_refusal s w least short ≡ done
+    told_none h v = past_source ∙ rw (le-ltb _ _ many, h, v)

@@ -1,6 +1,6 @@
 -- A walk over a source by counting gives its bits, one after the other: the place of the next bit is at * width + (width - 1 - after), and a step goes on
 -- to the place after. Assumes nothing.
-use mathlib.Core.Path.{◌≡◌, refl, ◌∙◌}
+use mathlib.Core.Path.{◌≡◌, refl, ap, ◌∙◌}
 use mathlib.Core.List.{List, [], ◌∷◌}
 use Prim.Native.Nat.{ℕ, suc, ◌+◌, ◌-◌, ◌*◌, ◌/◌, ◌%◌, ◌^◌, ◌≤◌, ◌<◌}
 use native.Mathlib.Nat.{mul-le-mul_right, suc-mul}
@@ -8,9 +8,9 @@ use native.Mathlib.Omega.{arith}
 use lib.ListN.{length, get_or, drop, drop_of_length-le}
 use lib.Seq.{drop-cons}
 use Rattle.std.proofs.Common.{add-one}
-use Rattle.capture.specs.Bits.{bit_at}
+use Rattle.capture.specs.Bits.{bit_at, bits_of}
 use Rattle.capture.specs.Inner.Sources.{AreBits, IsSource, IsWalk, all_bits, bits_left}
-use Rattle.capture.proofs.Bitstring.{bits_length, bits_at, bit_small}
+use Rattle.capture.proofs.Bitstring.{bits_length, bits_at, bits_narrow, bit_small}
 use Rattle.capture.proofs.Limits.{bits_small}
 use Rattle.capture.proofs.Walking.{quotient_is, remainder_is}
 
@@ -19,7 +19,7 @@ module _ (s : List ℕ) (w : ℕ) where
   unfolding all_bits
   all_length = bits_length s w (length s * w)
 
-  all_at : (i : ℕ) → i < length s * w → get_or (all_bits s w) i 0 ≡ bit_at s w i
+  pub all_at : (i : ℕ) → i < length s * w → get_or (all_bits s w) i 0 ≡ bit_at s w i
   unfolding all_bits
   all_at i h = bits_at s w (length s * w) i h
 
@@ -32,6 +32,20 @@ module _ (s : List ℕ) (w : ℕ) where
       let m : (at * w + (w - 1 - after)) % w ≡ w - 1 - after = remainder_is w at (w - 1 - after) r refl in
       let a : w - 1 - (w - 1 - after) ≡ after = omega arith in
       rw (q, m, a)
+
+-- the bits of the whole capture
+pub whole : (s : List ℕ) (w : ℕ) → all_bits s w ≡ bits_of s w (length s * w)
+unfolding all_bits
+whole s w = refl
+
+-- a list of bits is its own source
+pub all_narrow : (s : List ℕ) → ((i : ℕ) → i < length s → get_or s i 0 ≤ 1) → all_bits s 1 ≡ s
+unfolding all_bits
+all_narrow s h = let e : length s * 1 ≡ length s = omega arith in rw e (bits_narrow s h)
+
+-- what counts the bits of a source counts those of its symbols
+pub counted : (s : List ℕ) (w : ℕ) {k : ℕ} {t : List ℕ} → k ≡ length t → t ≡ all_bits s w → k ≡ length s * w
+counted s w e f = e ∙ ap length f ∙ all_length s w
 
 pub source_bits : {s : List ℕ} {w : ℕ} → IsSource s w → AreBits (all_bits s w)
 source_bits {s} {w} S =

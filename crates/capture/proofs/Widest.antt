@@ -1,35 +1,37 @@
--- The first symbol above 1, found from the left. Assumes nothing.
-use mathlib.Core.Path.{◌≡◌, refl, ap, sym}
+-- The first symbol above 1 is where `position` finds one. Assumes nothing.
+use mathlib.Core.Path.{◌≡◌, refl, sym, ◌∙◌}
+use mathlib.Core.List.{List}
 use mathlib.Core.Bool.{Bool, true, false, cond, ◌&&◌}
-use mathlib.Core.List.{List, [], ◌∷◌}
-use Prim.Native.Nat.{ℕ, zero, suc, ◌≤◌, ◌<◌}
+use Prim.Native.Nat.{ℕ, suc, ◌+◌, ◌≤◌}
 use native.Mathlib.Omega.{arith}
-use native.Mathlib.Nat.{zero-lt-suc, le_of_suc-le-suc}
-use borrow.Author.Tests.{le-leb, lt-leb, le-ltb}
-use lib.Dec.{eqb, ltb}
-use lib.ListN.{length, get_or}
+use lib.Dec.{eqb, leb, ltb}
+use lib.ListN.{length}
+use borrow.Author.Tests.{leb-true, leb-false, le-ltb, lt-ltb, ltb-false}
+use Rattle.std.specs.List.{position_or_len}
+use Rattle.std.proofs.lemmas.List.Recursion.{is_position_or_len}
+use Rattle.std.proofs.lemmas.List.Sums.{prefix_len-le-length}
+use Rattle.std.specs.Prelude.{Some, None}
 use Rattle.capture.specs.Bits.{first_wide, too_wide_at, wide}
+use Rattle.capture.specs.Inner.Sources.{place_in}
 
--- no symbol before place i is above 1
-abbrev pub Narrow : List ℕ → ℕ → Type 0
-Narrow s i = (j : ℕ) → j < i → get_or s j 0 ≤ 1
+above_one : (x n : ℕ) → cond (leb x 1) (suc n) 0 ≡ cond (ltb 1 x) 0 (1 + n)
+above_one x n = go (leb x 1) refl
+  where
+    go : (b : Bool) → leb x 1 ≡ b → cond b (suc n) 0 ≡ cond (ltb 1 x) 0 (1 + n)
+    go true e = rw (le-ltb 1 x (leb-true x 1 e)) (omega arith)
+    go false e = rw (lt-ltb 1 x (leb-false x 1 e))
 
--- the first symbol above 1 stands at i
-pub wide_at : (s : List ℕ) (i : ℕ) → i < length s → Narrow s i → 1 < get_or s i 0 → i ≡ first_wide s
+wide_first : (s : List ℕ) → first_wide s ≡ position_or_len (λ x. ltb 1 x) s
 unfolding first_wide
-wide_at [] i h n g = omega arith
-wide_at (x ∷ s) zero h n g = rw (lt-leb x 1 g)
-wide_at (x ∷ s) (suc i) h n g =
-    rw (le-leb x 1 (n 0 (zero-lt-suc i))) (ap suc (wide_at s i (le_of_suc-le-suc h) (λ j l. n (suc j) (omega arith)) g))
+wide_first s = is_position_or_len first_wide (λ x. ltb 1 x) refl (λ x xs. above_one x (first_wide xs)) s
 
--- no symbol is above 1
-pub wide_none : (s : List ℕ) (i : ℕ) → i ≤ length s → length s ≤ i → Narrow s i → i ≡ first_wide s
-unfolding first_wide
-wide_none [] i h g n = omega arith
-wide_none (x ∷ s) zero h g n = omega arith
-wide_none (x ∷ s) (suc i) h g n =
-    rw (le-leb x 1 (n 0 (zero-lt-suc i)))
-    (ap suc (wide_none s i (le_of_suc-le-suc h) (le_of_suc-le-suc g) (λ j l. n (suc j) (omega arith))))
+-- as `position` answers it
+pub wide_place : (s : List ℕ)
+    → cond (ltb (position_or_len (λ x. ltb 1 x) s) (length s)) (Some (position_or_len (λ x. ltb 1 x) s)) None ≡ place_in s (first_wide s)
+wide_place s = rw (wide_first s)
+
+pub wide_within : (s : List ℕ) → first_wide s ≤ length s
+wide_within s = rw (wide_first s) (prefix_len-le-length _ s)
 
 -- number 3 by the place that the code looks for
 wide_is : (s : List ℕ) (v : ℕ) → wide s v ≡ ltb (too_wide_at s v) (length s)
@@ -39,6 +41,19 @@ wide_is s v = by_width (eqb v 1)
     by_width true = refl
     by_width false = sym (le-ltb (length s) (length s) (omega arith))
 
--- by the place that it found
-pub wide_found : (s : List ℕ) (w : ℕ) {place : ℕ} → place ≡ too_wide_at s w → wide s w ≡ ltb place (length s)
-wide_found s w q = rw q (wide_is s w)
+place_some : (b : Bool) (i p : ℕ) → cond b (Some i) None ≡ Some p → b ≡ true
+place_some true i p e = refl
+place_some false i p e = cc
+
+place_none : (b : Bool) (i : ℕ) → cond b (Some i) None ≡ None → b ≡ false
+place_none true i e = cc
+place_none false i e = refl
+
+pub wide_some : (s : List ℕ) (w p : ℕ) → place_in s (too_wide_at s w) ≡ Some p → wide s w ≡ true
+wide_some s w p e = wide_is s w ∙ place_some _ _ _ e
+
+pub wide_none : (s : List ℕ) (w : ℕ) → place_in s (too_wide_at s w) ≡ None → wide s w ≡ false
+wide_none s w e = wide_is s w ∙ place_none _ _ e
+
+pub wide_nowhere : (s : List ℕ) → place_in s (first_wide s) ≡ None → first_wide s ≡ length s
+wide_nowhere s e = omega (arith, wide_within s, ltb-false _ _ (place_none _ _ e))

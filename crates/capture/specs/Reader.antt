@@ -1,6 +1,8 @@
 -- What the bit reader answers: 1, then 7, then 2, then 3, "and 3 only for the symbol it reads". Definitions only.
-use Rattle.std.specs.Prelude.{ℕ, cond, ◌&&◌, List, leb, ltb, eqb, get_or}
+use Rattle.std.specs.Prelude.{ℕ, cond, ◌&&◌, List, leb, ltb, eqb, get_or, Result, Ok, Err}
 use Rattle.answer.specs.Numbers.{done, too_long, too_short, too_wide, bad_width}
+use Rattle.answer.specs.Results.{number_of, place_of}
+use Rattle.answer.specs.declared.Refusal.{Refusal}
 use Rattle.capture.specs.Limit.{no_width, over_limit}
 use Rattle.capture.specs.Bits.{bit_at, bit_count}
 use Rattle.capture.specs.declared.BitRead.{BitRead}
@@ -16,3 +18,8 @@ bit_read symbols width i =
     (cond (leb (bit_count symbols width) i) (refused_bit too_short 0)
     (cond (eqb width 1 && ltb 1 (get_or symbols i 0)) (refused_bit too_wide i)
     (record { number = done; place = 0; bit = bit_at symbols width i }))))
+
+-- what C gets of a bit
+abbrev pub bit_read_of : Result ℕ Refusal → BitRead
+bit_read_of (Ok bit) = record { number = done; place = 0; bit = bit }
+bit_read_of (Err e) = refused_bit (number_of e) (place_of e)

@@ -1,32 +1,61 @@
-// By which number a bitstring track refuses a capture, and what it then answers.
-ghost use Rattle.std.specs.Prelude.{◌≡◌};
+// Which captures a track takes.
+ghost use Rattle.std.specs.Prelude.{◌≡◌, MatchResult};
+ghost use Rattle.answer.specs.Results.{number_in, number_of, refused_by};
+ghost use Rattle.capture.specs.Inner.Sources.{all_bits, symbols_refusal};
 ghost use Rattle.capture.specs.Refusals.{bits_refusal, refused_on};
 
-use crate::bits::{SYMBOL_LIMIT, first_wide, no_width, too_wide_at};
-use answer::{
-    Answer, BAD_WIDTH, DONE, NOT_RUN, TOO_LONG, TOO_SHORT, TOO_WIDE, refused_as, refused_at,
-};
+use crate::bits::{SYMBOL_LIMIT, first_wide, too_wide_at};
+use crate::source::Source;
+use answer::{Answer, DONE, Refusal, TOO_WIDE, refused_as, refused_at};
+
+// The bits that a bitstring track takes of a capture. Fewer than `least` are not run; `short` says that lent memory is too short.
+pub fn accept_bits<'a>(
+    symbols: &'a [u8],
+    width: u8,
+    least: usize,
+    short: bool,
+) -> Result<Source<'a>, Refusal>
+    ensures number { number_in result ≡ bits_refusal symbols.now width least short }
+    ensures found { MatchResult result (λ s. s ≡ all_bits symbols.now width) (λ e. refused_by e ≡ refused_on symbols.now (number_of e)) }
+{
+    let source = Source::of(symbols, width)?;
+    if source.len() < least {
+        return Err(Refusal::NotRun);
+    }
+    if short {
+        return Err(Refusal::TooShort);
+    }
+    if let Some(place) = too_wide_at(symbols, width) {
+        return Err(Refusal::TooWide(place as u64));
+    }
+    Ok(source)
+}
+
+// Whether a capture is taken where its samples are its symbols. Fewer than `least` are not run.
+#[tactic(auto, unfolding(crate::specs::Limit::symbol_limit))]
+pub fn accept_symbols(symbols: &[u8], least: usize, short: bool) -> Result<(), Refusal>
+    ensures { number_in result ≡ symbols_refusal symbols.now least short }
+{
+    if SYMBOL_LIMIT < symbols.len() {
+        return Err(Refusal::TooLong);
+    }
+    if symbols.len() < least {
+        return Err(Refusal::NotRun);
+    }
+    if short {
+        return Err(Refusal::TooShort);
+    }
+    Ok(())
+}
 
 // The number by which a capture is refused, or 0. Fewer bits than `least` are not run; `short` says that lent memory is too short.
 pub fn bits_refusal(symbols: &[u8], width: u8, least: usize, short: bool) -> u64
     ensures { result ≡ bits_refusal symbols.now width least short }
 {
-    if SYMBOL_LIMIT < symbols.len() {
-        return TOO_LONG;
+    match accept_bits(symbols, width, least, short) {
+        Ok(_) => DONE,
+        Err(refusal) => refusal.number(),
     }
-    if no_width(width) {
-        return BAD_WIDTH;
-    }
-    if symbols.len() * (width as usize) < least {
-        return NOT_RUN;
-    }
-    if short {
-        return TOO_SHORT;
-    }
-    if too_wide_at(symbols, width) < symbols.len() {
-        return TOO_WIDE;
-    }
-    DONE
 }
 
 // The answer of a refusal by its number. Only number 3 names a place.
@@ -34,7 +63,10 @@ pub fn refused_on(symbols: &[u8], number: u64) -> Answer
     ensures { result ≡ refused_on symbols.now number }
 {
     if number == TOO_WIDE {
-        return refused_at(number, first_wide(symbols) as u64);
+        return match first_wide(symbols) {
+            Some(i) => refused_at(number, i as u64),
+            None => refused_at(number, symbols.len() as u64),
+        };
     }
     refused_as(number)
 }

@@ -2,11 +2,10 @@
 #![tactic(auto)]
 
 ghost use Rattle.std.specs.Prelude.{◌≡◌, ◌<◌, ◌≤◌, length};
-ghost use Rattle.alphabet.specs.Alphabet.{alphabet_of, dense, distinct, output_of, written};
+ghost use Rattle.alphabet.specs.Alphabet.{alphabet_in, alphabet_of, dense, distinct, output_of, written};
 ghost use Rattle.dense.specs.Inner.Sight.{entered, next_after};
 
-use alphabet::{Alphabet, symbol};
-use answer::DONE;
+use answer::Refusal;
 
 // A value that was not seen yet: no number of a value is as large.
 const UNSEEN: u16 = 256;
@@ -30,25 +29,20 @@ fn number_by_sight(symbols: &[u8], out: &mut [u8]) -> u64
 {
     let mut numbers = [UNSEEN; 256];
     let mut next: u16 = 0;
-    let mut i: usize = 0;
-    while i < symbols.len() {
-        let x = symbol(symbols, i);
+    for (i, symbol) in symbols.iter().enumerate() {
+        let x = usize::from(*symbol);
         next = enter(&mut numbers, x, next);
         out[i] = numbers[x] as u8;
-        i += 1;
     }
-    next as u64
+    u64::from(next)
 }
 
-// dense_alphabet: the capture's values numbered by first sight.
-pub fn dense_alphabet(symbols: &[u8], out: &mut [u8]) -> Alphabet
-    ensures { (result ≡ alphabet_of symbols.now out.old)
+// dense_alphabet: the capture's values numbered by first sight. The result is how many there are.
+#[tactic(auto, using(alphabet::proofs::Translating::alphabet_refused))]
+pub fn dense_alphabet(symbols: &[u8], out: &mut [u8]) -> Result<u64, Refusal>
+    ensures { (alphabet_in result ≡ alphabet_of symbols.now out.old)
         × (out.new ≡ output_of dense symbols.now out.old) }
 {
-    let number = alphabet::refusal(symbols, out);
-    if number != DONE {
-        return Alphabet { number, size: 0 };
-    }
-    let size = number_by_sight(symbols, out);
-    Alphabet { number, size }
+    alphabet::refusal(symbols, out)?;
+    Ok(number_by_sight(symbols, out))
 }

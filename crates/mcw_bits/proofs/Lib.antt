@@ -2,6 +2,6 @@ pub mod Counting
 pub mod Commonest
 pub mod Sayings
 pub mod Place
-pub mod Samples
+pub mod Running
 pub mod Ones
 pub mod Examples

@@ -1,5 +1,5 @@
 -- The ones of a window as it rolls on, the ring of the latest bits, and what a window of bits says. Assumes nothing.
-use mathlib.Core.Path.{◌≡◌, ◌∙◌}
+use mathlib.Core.Path.{◌≡◌, refl, ap, ◌∙◌}
 use mathlib.Core.Bool.{cond}
 use mathlib.Core.List.{List}
 use Prim.Native.Nat.{ℕ, ◌+◌, ◌-◌, ◌%◌, ◌≤◌, ◌<◌}
@@ -9,18 +9,24 @@ use lib.ListN.{length, get_or, set, drop, replicate, length-take, length-drop, l
 use lib.Seq.{get_or-take, get_or-drop, get_or-set_same, get_or-set_other}
 use borrow.Author.Tests.{leb-true, leb-false}
 use Rattle.race.specs.Race.{silent, says}
-use Rattle.race.specs.Inner.Held.{heard, heard_from}
+use Rattle.race.specs.Inner.Raced.{heard, heard_from}
 use Rattle.race.proofs.Cases.{tested, same?}
 use Rattle.mcw_bits.specs.Inner.Counts.{before}
 use Rattle.mcw_bits.specs.Commonest.{occurrences, commonest, window}
 use Rattle.mcw_bits.specs.Mcw.{size, said}
-use Rattle.mcw_bits.specs.Inner.Ones.{Ones, AllOnes, Ring, past_in, rolled, Rolls, AllRoll, majority_of, majorities_of, Small}
-use Rattle.mcw_bits.specs.Inner.Say.{Symbols, say_of, sayings}
-use Rattle.mcw_bits.specs.declared.Four.{Four}
+use Rattle.mcw_bits.specs.Inner.Ones.{Ones, AllOnes, Ring, past_in, Rolled, Rolls, AllRoll, majority_of, Small}
+use Rattle.mcw_bits.specs.Inner.Say.{Sayings, say_of}
+use Rattle.std.specs.Prelude.{Option}
 use Rattle.mcw_bits.proofs.Counting.{before_same, before_other, before_le, before_mono, occ_part}
 use Rattle.mcw_bits.proofs.Commonest.{bit_zero, bits_commonest}
-use Rattle.mcw_bits.proofs.Samples.{Bits}
+use Rattle.capture.specs.Inner.Sources.{AreBits}
 use Rattle.mcw_bits.proofs.Place.{four}
+
+size_some : (j : ℕ) → j < 4 → 0 < size j
+size_some = four (λ (j : ℕ). 0 < size j) (omega arith) (omega arith) (omega arith) (omega arith)
+
+size_near : (j : ℕ) → j < 4 → size j < 4096
+size_near = four (λ (j : ℕ). size j < 4096) (omega arith) (omega arith) (omega arith) (omega arith)
 
 bit_before : (s : List ℕ) (i : ℕ) → i < length s → get_or s i 0 < 2 → before s 1 (i + 1) ≡ before s 1 i + get_or s i 0
 bit_before s i h b =
@@ -50,7 +56,7 @@ module _ {s : List ℕ} {i : ℕ} {ring : List ℕ} (R : Ring s i ring) where
       blank q l m = get_or-set_other ring (i % 4096) q x 0 (λ z. absurd (omega arith)) ∙ R.blank q (omega arith) m
 
   -- what leaves a window
-  module _ (B : Bits s) (h : i < length s) (w : ℕ) (some : 0 < w) (near : w < 4096) where
+  module _ (B : AreBits s) (h : i < length s) (w : ℕ) (some : 0 < w) (near : w < 4096) where
     pub leaves : before s 1 (i + 1 - w) ≡ before s 1 (i - w) + past_in ring i w
     leaves =
         tested (leb w i)
@@ -80,7 +86,7 @@ module _ {s : List ℕ} {i : ℕ} {ring : List ℕ} (R : Ring s i ring) where
       rolls_on = record { count = omega (arith, O.count, comes, leaves, rolls.has) }
 
 -- a window's vote is heard as it is said
-module _ {s : List ℕ} {i : ℕ} (B : Bits s) (h : i ≤ length s) (m : ℕ) {c : ℕ} (O : Ones s i (m + m + 1) c) where
+module _ {s : List ℕ} {i : ℕ} (B : AreBits s) (h : i ≤ length s) (m : ℕ) {c : ℕ} (O : Ones s i (m + m + 1) c) where
   small_ones : c < 4294967296
   small_ones = omega (arith, O.count, before_le s 1 i, B.short)
 
@@ -102,62 +108,47 @@ module _ {s : List ℕ} {i : ℕ} (B : Bits s) (h : i ≤ length s) (m : ℕ) {c
   vote_says : m + m + 1 ≤ i → commonest (window s i (m + m + 1)) ≡ majority_of c (m + m + 1)
   vote_says l = rw (← window_ones l) (bits_commonest (window s i (m + m + 1)) m (window_length l) (window_bit l))
 
-  vote_heard : heard (say_of (majority_of c (m + m + 1)) i (m + m + 1)) ≡ cond (leb (m + m + 1) i) (says (commonest (window s i (m + m + 1)))) silent
+  vote_heard : heard (say_of c i (m + m + 1)) ≡ cond (leb (m + m + 1) i) (says (commonest (window s i (m + m + 1)))) silent
   vote_heard =
       tested (leb (m + m + 1) i)
       (λ t. rw (t, vote_says (leb-true (m + m + 1) i t)) (tested (ltb (m + m + 1) (c + c)) (λ u. rw u) (λ u. rw u)))
       (λ t. rw t)
 
-bit_below : (c w : ℕ) → majority_of c w < 256
-bit_below c w = tested (ltb w (c + c)) (λ t. rw t (omega arith)) (λ t. rw t (omega arith))
-
-pub bits_symbols : (ones : Four) → Symbols (majorities_of ones)
-bits_symbols ones =
-    record {
-      first_is = bit_below ones.first (size 0);
-      second_is = bit_below ones.second (size 1);
-      third_is = bit_below ones.third (size 2);
-      fourth_is = bit_below ones.fourth (size 3);
-    }
-
-module _ {s : List ℕ} {i : ℕ} {ones : Four} (B : Bits s) (A : AllOnes s i ones) where
-  pub votes_heard : i ≤ length s → (j : ℕ) → j < 4 → heard_from (sayings (majorities_of ones) i) j ≡ said s i j
+-- of each window, by its place
+module _ {s : List ℕ} {i : ℕ} {ones : List ℕ} (B : AreBits s) (A : AllOnes s i ones) where
+  pub votes_heard : i ≤ length s → {gs : List (Option ℕ)} → Sayings ones i gs → (j : ℕ) → j < 4 → heard_from gs j ≡ said s i j
   unfolding said
-  votes_heard h =
-      four (λ (j : ℕ). heard_from (sayings (majorities_of ones) i) j ≡ said s i j)
-      (vote_heard B h 31 A.first_ones) (vote_heard B h 127 A.second_ones) (vote_heard B h 511 A.third_ones) (vote_heard B h 2047 A.fourth_ones)
+  votes_heard h {gs} S j l =
+      ap heard (S.each j l)
+      ∙ four (λ (j : ℕ). heard (say_of (get_or ones j 0) i (size j)) ≡ cond (leb (size j) i) (says (commonest (window s i (size j)))) silent)
+      (vote_heard B h 31 (A.each 0 (omega arith))) (vote_heard B h 127 (A.each 1 (omega arith)))
+      (vote_heard B h 511 (A.each 2 (omega arith))) (vote_heard B h 2047 (A.each 3 (omega arith)))
+      j l
 
   pub ones_small : i ≤ length s → Small ones
   ones_small h =
       record {
-        first_small = omega (arith, small_ones B h 31 A.first_ones);
-        second_small = omega (arith, small_ones B h 127 A.second_ones);
-        third_small = omega (arith, small_ones B h 511 A.third_ones);
-        fourth_small = omega (arith, small_ones B h 2047 A.fourth_ones);
+        full = A.full;
+        each =
+            four (λ (j : ℕ). get_or ones j 0 < 4611686018427387904)
+            (omega (arith, small_ones B h 31 (A.each 0 (omega arith)))) (omega (arith, small_ones B h 127 (A.each 1 (omega arith))))
+            (omega (arith, small_ones B h 511 (A.each 2 (omega arith)))) (omega (arith, small_ones B h 2047 (A.each 3 (omega arith))));
       }
 
   module _ {ring : List ℕ} (R : Ring s i ring) (h : i < length s) {x : ℕ} (e : x ≡ get_or s i 0) where
     pub all_roll : AllRoll ones ring i x
-    all_roll =
-        record {
-          first_rolls = rolls R B h (size 0) (omega arith) (omega arith) A.first_ones e;
-          second_rolls = rolls R B h (size 1) (omega arith) (omega arith) A.second_ones e;
-          third_rolls = rolls R B h (size 2) (omega arith) (omega arith) A.third_ones e;
-          fourth_rolls = rolls R B h (size 3) (omega arith) (omega arith) A.fourth_ones e;
-        }
+    all_roll = record { full = A.full; each = λ j l. rolls R B h (size j) (size_some j l) (size_near j l) (A.each j l) e }
 
-    pub all_rolled : AllOnes s (i + 1) (rolled ones ring i x)
-    all_rolled =
+    pub all_rolled : {next : List ℕ} → Rolled ones ring i x 4 next → AllOnes s (i + 1) next
+    all_rolled N =
         record {
-          first_ones = rolls_on R B h (size 0) (omega arith) (omega arith) A.first_ones e;
-          second_ones = rolls_on R B h (size 1) (omega arith) (omega arith) A.second_ones e;
-          third_ones = rolls_on R B h (size 2) (omega arith) (omega arith) A.third_ones e;
-          fourth_ones = rolls_on R B h (size 3) (omega arith) (omega arith) A.fourth_ones e;
+          full = N.full;
+          each = λ j l. rw (N.past j l) (rolls_on R B h (size j) (size_some j l) (size_near j l) (A.each j l) e);
         }
 
 none_yet : (s : List ℕ) (w : ℕ) → Ones s 0 w 0
 unfolding occurrences
 none_yet s w = let z : 0 - w ≡ 0 = omega arith in record { count = rw z }
 
-pub ones_start : (s : List ℕ) → AllOnes s 0 (record { first = 0; second = 0; third = 0; fourth = 0 })
-ones_start s = record { first_ones = none_yet s _; second_ones = none_yet s _; third_ones = none_yet s _; fourth_ones = none_yet s _ }
+pub ones_start : (s : List ℕ) → AllOnes s 0 (replicate 4 0)
+ones_start s = record { full = refl; each = four (λ (j : ℕ). Ones s 0 (size j) (get_or (replicate 4 0) j 0)) (none_yet s _) (none_yet s _) (none_yet s _) (none_yet s _) }

@@ -35,7 +35,7 @@ pub mcw_starts : (s : List ℕ) → RacedAt s 0 (record { winner = 0; bar = 1 })
 mcw_starts s = record { raced = race_starts 4 (size 0) (said s) (sample s) (omega arith) }
 
 -- no window takes part before the first place
-said_silent : (s : List ℕ) (i : ℕ) → i < size 0 → (j : ℕ) → j < 4 → said s i j ≡ silent
+pub said_silent : (s : List ℕ) (i : ℕ) → i < size 0 → (j : ℕ) → j < 4 → said s i j ≡ silent
 unfolding said
 said_silent s i l =
     four (λ (j : ℕ). said s i j ≡ silent)

@@ -1,37 +1,81 @@
--- Four guesses written one after the other; from the longest window's size on every window takes part. Assumes nothing.
-use mathlib.Core.Path.{◌≡◌}
-use mathlib.Core.List.{List, [], ◌∷◌}
-use Prim.Native.Nat.{ℕ, ◌≤◌}
+-- Four numbers, or four guesses, written one after the other. Assumes nothing.
+use mathlib.Core.Path.{◌≡◌, refl, ◌∙◌}
+use mathlib.Core.List.{List}
+use mathlib.Core.Bool.{cond}
+use Prim.Native.Nat.{ℕ, ◌+◌, ◌-◌, ◌≤◌, ◌<◌}
 use native.Mathlib.Omega.{arith}
-use lib.ListN.{length, get_or, set}
-use borrow.Author.Tests.{le-leb}
+use lib.Dec.{leb}
+use lib.ListN.{length, get_or, set, replicate, length-set}
+use lib.Seq.{get_or-set_same, get_or-set_other}
+use borrow.Author.Tests.{le-leb, lt-leb}
+use Rattle.std.specs.Prelude.{Option, Some, None}
+use Rattle.race.proofs.Cases.{same?}
 use Rattle.mcw_bits.specs.Mcw.{size}
-use Rattle.mcw_bits.specs.Inner.Say.{say_of, sayings, hushed}
-use Rattle.mcw_bits.specs.declared.Four.{Four}
+use Rattle.mcw_bits.specs.Inner.Ones.{Rolled, majority_of, past_in}
+use Rattle.mcw_bits.specs.Inner.Say.{Hushed, Sayings, Votes}
+use Rattle.mcw_bits.proofs.Place.{four}
 
-pub filled : (g : List ℕ) → length g ≡ 4 → {a b c d a' b' c' d' : ℕ} → a ≡ a' → b ≡ b' → c ≡ c' → d ≡ d'
-    → set (set (set (set g 0 a) 1 b) 2 c) 3 d ≡ a' ∷ b' ∷ c' ∷ d' ∷ []
-filled [] e p q r t = absurd (omega arith)
-filled (_ ∷ []) e p q r t = absurd (omega arith)
-filled (_ ∷ _ ∷ []) e p q r t = absurd (omega arith)
-filled (_ ∷ _ ∷ _ ∷ []) e p q r t = absurd (omega arith)
-filled (_ ∷ _ ∷ _ ∷ _ ∷ []) e p q r t = rw (p, q, r, t)
-filled (_ ∷ _ ∷ _ ∷ _ ∷ _ ∷ _) e p q r t = absurd (omega arith)
+-- what holds of the elements before place m, and of the new one, holds before m + 1
+module _ {A : Type 0} (P : ℕ → A → Type 0) (d : A) (xs : List A) (m : ℕ) (v : A) where
+  pub set_past : m < length xs → ((j : ℕ) → j < m → P j (get_or xs j d)) → P m v → (j : ℕ) → j < m + 1 → P j (get_or (set xs m v) j d)
+  set_past l p q j k =
+      same? j m
+      (λ e. rw (e, get_or-set_same xs m v d l) q)
+      (λ n. rw (get_or-set_other xs m j v d n) (p j (omega arith)))
 
--- each is read just before it is written
-pub hushes : (g : List ℕ) (i : ℕ) → length g ≡ 4 → (a b c d : ℕ)
-    → a ≡ say_of (get_or g 0 0) i (size 0)
-    → b ≡ say_of (get_or (set g 0 a) 1 0) i (size 1)
-    → c ≡ say_of (get_or (set (set g 0 a) 1 b) 2 0) i (size 2)
-    → d ≡ say_of (get_or (set (set (set g 0 a) 1 b) 2 c) 3 0) i (size 3)
-    → set (set (set (set g 0 a) 1 b) 2 c) 3 d ≡ hushed g i
-hushes [] i e a b c d p q r t = absurd (omega arith)
-hushes (_ ∷ []) i e a b c d p q r t = absurd (omega arith)
-hushes (_ ∷ _ ∷ []) i e a b c d p q r t = absurd (omega arith)
-hushes (_ ∷ _ ∷ _ ∷ []) i e a b c d p q r t = absurd (omega arith)
-hushes (_ ∷ _ ∷ _ ∷ _ ∷ []) i e a b c d p q r t = rw (p, q, r, t)
-hushes (_ ∷ _ ∷ _ ∷ _ ∷ _ ∷ _) i e a b c d p q r t = absurd (omega arith)
+  pub set_left : ((j : ℕ) → m ≤ j → P j (get_or xs j d)) → (j : ℕ) → m + 1 ≤ j → P j (get_or (set xs m v) j d)
+  set_left p j k = rw (get_or-set_other xs m j v d (λ e. omega arith)) (p j (omega arith))
 
-pub all_say : (f : Four) (i : ℕ) → size 3 ≤ i → f.first ∷ f.second ∷ f.third ∷ f.fourth ∷ [] ≡ sayings f i
-all_say f i l =
-    rw (le-leb (size 0) i (omega arith), le-leb (size 1) i (omega arith), le-leb (size 2) i (omega arith), le-leb (size 3) i l)
+pub votes_start : (ones : List ℕ) → Votes ones 0 (replicate 4 None)
+votes_start ones = record { full = refl; each = λ j l. absurd (omega arith) }
+
+pub votes_next : {ones : List ℕ} {votes : List (Option ℕ)} {m v : ℕ} → m < 4 → Votes ones m votes → v ≡ majority_of (get_or ones m 0) (size m)
+    → Votes ones (m + 1) (set votes m (Some v))
+votes_next {ones} {votes} {m} {v} l V e =
+    record {
+      full = length-set votes m (Some v) ∙ V.full;
+      each = set_past (λ j g. g ≡ Some (majority_of (get_or ones j 0) (size j))) None votes m (Some v) (omega (arith, V.full)) V.each (rw e);
+    }
+
+pub hushed_start : {votes : List (Option ℕ)} {i : ℕ} → length votes ≡ 4 → Hushed votes i 0 votes
+hushed_start e = record { full = e; past = λ j l. absurd (omega arith); left = λ j l. refl }
+
+module _ {votes says : List (Option ℕ)} {i m : ℕ} (l : m < 4) (H : Hushed votes i m says) where
+  pub hushed_silent : i < size m → Hushed votes i (m + 1) (set says m None)
+  hushed_silent h =
+      record {
+        full = length-set says m None ∙ H.full;
+        past = set_past (λ j g. g ≡ cond (leb (size j) i) (get_or votes j None) None) None says m None (omega (arith, H.full)) H.past (rw (lt-leb (size m) i h));
+        left = set_left (λ j g. g ≡ get_or votes j None) None says m None H.left;
+      }
+
+  pub hushed_kept : size m ≤ i → Hushed votes i (m + 1) says
+  hushed_kept h =
+      record {
+        full = H.full;
+        past = λ j k. same? j m (λ e. rw (e, le-leb (size m) i h) (H.left m (omega arith))) (λ n. H.past j (omega arith));
+        left = λ j k. H.left j (omega arith);
+      }
+
+pub rolled_start : {ones ring : List ℕ} {i x : ℕ} → length ones ≡ 4 → Rolled ones ring i x 0 ones
+rolled_start e = record { full = e; past = λ j l. absurd (omega arith); left = λ j l. refl }
+
+pub rolled_next : {ones ring next : List ℕ} {i x m v : ℕ} → m < 4 → Rolled ones ring i x m next
+    → v ≡ get_or ones m 0 + x - past_in ring i (size m) → Rolled ones ring i x (m + 1) (set next m v)
+rolled_next {ones} {ring} {next} {i} {x} {m} {v} l R e =
+    record {
+      full = length-set next m v ∙ R.full;
+      past = set_past (λ j c. c ≡ get_or ones j 0 + x - past_in ring i (size j)) 0 next m v (omega (arith, R.full)) R.past e;
+      left = set_left (λ j c. c ≡ get_or ones j 0) 0 next m v R.left;
+    }
+
+-- before the longest window takes part, and from then on
+pub says_hushed : {ones : List ℕ} {votes says : List (Option ℕ)} {i : ℕ} → Votes ones 4 votes → Hushed votes i 4 says → Sayings ones i says
+says_hushed V H = record { full = H.full; each = λ j l. H.past j l ∙ rw (V.each j l) }
+
+pub says_all : {ones : List ℕ} {votes : List (Option ℕ)} {i : ℕ} → Votes ones 4 votes → size 3 ≤ i → Sayings ones i votes
+says_all {ones} {votes} {i} V h =
+    record { full = V.full; each = λ j l. V.each j l ∙ rw (le-leb (size j) i (omega (arith, longest j l))) }
+  where
+    longest : (j : ℕ) → j < 4 → size j ≤ size 3
+    longest = four (λ (j : ℕ). size j ≤ size 3) (omega arith) (omega arith) (omega arith) (omega arith)

@@ -2,7 +2,7 @@
 #![tactic(auto)]
 
 pub mod run;
-pub mod say;
+mod say;
 mod windows;
 
 // The windows' sizes, shortest first.
@@ -14,11 +14,4 @@ pub const THIRD: usize = 1023;
 
 pub const FOURTH: usize = 4095;
 
-// One number for each window.
-#[derive(Clone, Copy)]
-pub struct Four {
-    pub first: usize,
-    pub second: usize,
-    pub third: usize,
-    pub fourth: usize,
-}
+pub const WINDOWS: [usize; 4] = [FIRST, SECOND, THIRD, FOURTH];

@@ -1,44 +1,46 @@
 // What the windows say of a place.
 ghost use Rattle.std.specs.Prelude.{◌≡◌, ◌<◌, length};
-ghost use Rattle.mcw_bits.specs.Inner.Say.{Symbols, hushed, say_of, sayings};
+ghost use Rattle.mcw_bits.specs.Inner.Ones.{Small};
+ghost use Rattle.mcw_bits.specs.Inner.Say.{Hushed, Sayings, Votes};
 
-use crate::{FIRST, FOURTH, Four, SECOND, THIRD};
-use race::SILENT;
+use crate::windows::majority;
+use crate::{FOURTH, WINDOWS};
 
-// A window of size w takes part from place w on: what it says of place i, where v is the commonest.
-fn unless(v: u16, i: usize, w: usize) -> u16
-    ensures { result ≡ say_of v i w }
+// The commonest bit of each window.
+#[tactic(auto, using(crate::proofs::Sayings::votes_start, crate::proofs::Sayings::votes_next))]
+fn votes(ones: &[usize; 4]) -> [Option<u8>; 4]
+    requires { Small ones.now }
+    ensures { Votes ones.now 4 result }
 {
-    if w <= i { v } else { SILENT }
-}
-
-fn hush(g: &mut [u16; 4], i: usize)
-    requires { length g.old ≡ 4 }
-    ensures { g.new ≡ hushed g.old i }
-{
-    g[0] = unless(g[0], i, FIRST);
-    g[1] = unless(g[1], i, SECOND);
-    g[2] = unless(g[2], i, THIRD);
-    g[3] = unless(g[3], i, FOURTH);
-}
-
-fn narrow(x: usize) -> u16
-    requires { x < 256 }
-    ensures { result ≡ x }
-{
-    x as u16
-}
-
-// What the four windows say of place i, where f are their commonest symbols.
-pub fn say_all(g: &mut [u16; 4], f: Four, i: usize)
-    requires { (length g.old ≡ 4) × Symbols f }
-    ensures { g.new ≡ sayings f i }
-{
-    g[0] = narrow(f.first);
-    g[1] = narrow(f.second);
-    g[2] = narrow(f.third);
-    g[3] = narrow(f.fourth);
-    if i < FOURTH {
-        hush(g, i);
+    let mut votes = [None; 4];
+    for j in 0..4 {
+        votes[j] = Some(majority(ones[j], WINDOWS[j]));
     }
+    votes
+}
+
+// A window of size w takes part from place w on.
+#[tactic(auto, using(crate::proofs::Sayings::hushed_start, crate::proofs::Sayings::hushed_silent, crate::proofs::Sayings::hushed_kept))]
+fn hush(votes: &mut [Option<u8>; 4], i: usize)
+    requires { length votes.old ≡ 4 }
+    ensures { Hushed votes.old i 4 votes.new }
+{
+    for j in 0..4 {
+        if i < WINDOWS[j] {
+            votes[j] = None;
+        }
+    }
+}
+
+// What the four windows say of place i, by the ones in each.
+#[tactic(auto, using(crate::proofs::Sayings::says_hushed, crate::proofs::Sayings::says_all))]
+pub fn say_all(ones: &[usize; 4], i: usize) -> [Option<u8>; 4]
+    requires { Small ones.now }
+    ensures { Sayings ones.now i result }
+{
+    let mut says = votes(ones);
+    if i < FOURTH {
+        hush(&mut says, i);
+    }
+    says
 }

@@ -7,9 +7,11 @@ ghost use Rattle.mcw_bits.specs.Mcw.{outcome_of};
 ghost use Rattle.mcw_symbols.specs.Inner.Samples.{Samples};
 ghost use Rattle.multi_mcw.specs.Tracks.{literal_number, mcw_bits, mcw_literal, mcw_literal_output};
 
+use alphabet::Alphabet;
 use answer::{Answer, DONE, NOT_RUN, TOO_LONG, TOO_SHORT, refused_as};
 use capture::bits::SYMBOL_LIMIT;
 use capture::refusal::{bits_refusal, refused_on};
+use capture::source::Source;
 use dense::dense_alphabet;
 use mcw_bits::run::mcw_bits;
 use mcw_bits::{FIRST, FOURTH};
@@ -28,8 +30,9 @@ pub fn multi_mcw(symbols: &[u8], bits_per_symbol: u8) -> Answer
     if number != DONE {
         return refused_on(symbols, number);
     }
-    let n = symbols.len() * (bits_per_symbol as usize);
-    let r = mcw_bits(symbols, bits_per_symbol as u32, n);
+    let source = Source::new(symbols, bits_per_symbol);
+    let n = source.len();
+    let r = mcw_bits(source);
     rate(r, (n - FIRST) as u64, 2)
 }
 
@@ -54,7 +57,7 @@ fn mcw_translated(s: &[u8], k: u64) -> Outcome
     ensures { result ≡ outcome_of s.now }
 {
     if k <= 2 {
-        return mcw_bits(s, 1, s.len());
+        return mcw_bits(Source::new(s, 1));
     }
     mcw_symbols(s, k as usize)
 }
@@ -69,7 +72,8 @@ pub fn multi_mcw_literal(symbols: &[u8], out: &mut [u8]) -> Answer
         return refused_as(number);
     }
     let n = symbols.len();
-    let alphabet = dense_alphabet(symbols, out);
+    let found = dense_alphabet(symbols, out);
+    let alphabet = Alphabet::from(found);
     let r = mcw_translated(&out[..n], alphabet.size);
     rate(r, (n - FIRST) as u64, alphabet.size)
 }

@@ -7,6 +7,7 @@ ghost use Rattle.multi_mmc.specs.Tracks.{mmc_bits, mmc_bits_space, mmc_literal, 
 
 use crate::estimate::{bits_estimate, store_estimate};
 use crate::refusal::literal_refusal;
+use alphabet::Alphabet;
 use answer::{Answer, DONE, refused_as};
 use capture::refusal::{bits_refusal, refused_on};
 use rising::value_sorted_alphabet;
@@ -49,7 +50,8 @@ pub fn multi_mmc_literal(symbols: &[u8], out: &mut [u8], space: &mut [u32]) -> A
         return refused_as(number);
     }
     let n = symbols.len();
-    let alphabet = value_sorted_alphabet(symbols, out);
+    let found = value_sorted_alphabet(symbols, out);
+    let alphabet = Alphabet::from(found);
     let samples = &out[..n];
     let binary = alphabet.size <= 2;
     if binary {

@@ -4,8 +4,7 @@ use crate::case::Case;
 use crate::expected::Expected;
 use crate::kind::Kind;
 use crate::numbers::{double, word};
-use alphabet::Alphabet;
-use answer::{Answer, DONE, TOO_SHORT};
+use answer::{Answer, DONE, Refusal};
 use near::{few_units, same, within};
 
 // How many counters binary MultiMMC needs.
@@ -35,17 +34,21 @@ pub fn agrees(kind: Kind, case: &Case, capture: &[u8]) -> Option<bool> {
 // Every bit of the capture, and none past its end.
 fn bit(capture: &[u8], case: &Case) -> bool {
     let all = case.expected.iter().enumerate().all(|(i, bit)| {
-        let ours = capture::bits::bit(capture, case.width, i as u64);
-        ours.number == DONE && ours.bit == u64::from(*bit)
+        capture::bits::bit(capture, case.width, i as u64) == Ok(*bit)
     });
     let past = capture::bits::bit(capture, case.width, case.expected.len() as u64);
-    all && past.number == TOO_SHORT
+    all && past == Err(Refusal::TooShort)
 }
 
 // A translated capture and its alphabet's size.
-fn translated(ours: Alphabet, out: &[u8], mut words: &[u8], expected: &[u8]) -> Option<bool> {
+fn translated(
+    ours: Result<u64, Refusal>,
+    out: &[u8],
+    mut words: &[u8],
+    expected: &[u8],
+) -> Option<bool> {
     let size = word(&mut words)?;
-    Some(ours.number == DONE && ours.size == size && out.starts_with(expected))
+    Some(ours == Ok(size) && out.starts_with(expected))
 }
 
 fn dense_alphabet(capture: &[u8], words: &[u8], expected: &[u8]) -> Option<bool> {

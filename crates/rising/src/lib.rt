@@ -2,11 +2,10 @@
 #![tactic(auto)]
 
 ghost use Rattle.std.specs.Prelude.{◌≡◌, true, List, ℕ, ◌<◌, ◌≤◌, get_or, length};
-ghost use Rattle.alphabet.specs.Alphabet.{alphabet_of, distinct, output_of, rising, sorted, written};
+ghost use Rattle.alphabet.specs.Alphabet.{alphabet_in, alphabet_of, distinct, output_of, rising, sorted, written};
 ghost use Rattle.alphabet.specs.Inner.Numbering.{Holds};
 
-use alphabet::Alphabet;
-use answer::DONE;
+use answer::Refusal;
 use marks::{mark, number_rising};
 use renumber::renumber;
 
@@ -27,11 +26,7 @@ fn copy(symbols: &[u8], out: &mut [u8])
     requires { length symbols.now ≤ length out.old }
     ensures { out.new ≡ written symbols.now out.old }
 {
-    let mut i: usize = 0;
-    while i < symbols.len() {
-        out[i] = symbols[i];
-        i += 1;
-    }
+    out[..symbols.len()].copy_from_slice(symbols);
 }
 
 // Numbers the values in rising order and translates. Returns how many there are.
@@ -50,15 +45,12 @@ fn number_by_value(symbols: &[u8], out: &mut [u8]) -> u64
     size
 }
 
-// value_sorted_alphabet: the capture's values numbered in rising order.
-pub fn value_sorted_alphabet(symbols: &[u8], out: &mut [u8]) -> Alphabet
-    ensures { (result ≡ alphabet_of symbols.now out.old)
+// value_sorted_alphabet: the capture's values numbered in rising order. The result is how many there are.
+#[tactic(auto, using(alphabet::proofs::Translating::alphabet_refused))]
+pub fn value_sorted_alphabet(symbols: &[u8], out: &mut [u8]) -> Result<u64, Refusal>
+    ensures { (alphabet_in result ≡ alphabet_of symbols.now out.old)
         × (out.new ≡ output_of sorted symbols.now out.old) }
 {
-    let number = alphabet::refusal(symbols, out);
-    if number != DONE {
-        return Alphabet { number, size: 0 };
-    }
-    let size = number_by_value(symbols, out);
-    Alphabet { number, size }
+    alphabet::refusal(symbols, out)?;
+    Ok(number_by_value(symbols, out))
 }

@@ -1,17 +1,11 @@
--- `dense::dense_alphabet` meets its contract. It refuses by the number of `refusal`, and else the values are numbered by first sight.
--- Assumes nothing.
-use mathlib.Core.Path.{sym, ◌∙◌}
+-- `dense::dense_alphabet` meets its contract. Assumes nothing.
 use Rattle.alphabet.specs.Alphabet.{dense}
-use Rattle.alphabet.proofs.Translating.{alphabet_refused, alphabet_done, alphabet_room}
+use Rattle.alphabet.proofs.Translating.{alphabet_done, alphabet_room}
 use Rattle.dense.proofs.dense_alphabet.Goals as goal
 
-pub returns-then-number-ne-DONE : goal.returns-then-number-ne-DONE
-returns-then-number-ne-DONE c = alphabet_refused dense c.args.symbols.now c.args.out.now c.refusal-number.ensures c.if-number-ne-DONE.true
-
-pub number_by_sight-size-requires : goal.number_by_sight-size-requires
-number_by_sight-size-requires c =
-    (alphabet_room c.args.symbols.now c.args.out.now (sym c.refusal-number.ensures ∙ c.if-number-ne-DONE.false)).1
+pub number_by_sight-requires : goal.number_by_sight-requires
+number_by_sight-requires c = (alphabet_room c.args.symbols.now c.args.out.now c.in_ok-refusal.ensures).1
 
 pub returns : goal.returns
 returns c =
-    alphabet_done dense c.args.symbols.now c.args.out.now c.refusal-number.ensures c.if-number-ne-DONE.false c.number_by_sight-size.ensures.0 c.number_by_sight-size.ensures.1
+    alphabet_done dense c.args.symbols.now c.args.out.now c.in_ok-refusal.ensures c.number_by_sight.ensures.0 c.number_by_sight.ensures.1

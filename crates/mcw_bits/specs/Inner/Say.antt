@@ -1,24 +1,24 @@
 -- What the windows say of a place, as the code holds it. Definitions only.
-use Rattle.std.specs.Prelude.{cond, List, [], ◌∷◌, ℕ, ◌<◌, leb, get_or}
-use Rattle.race.specs.Inner.Held.{silence}
+use Rattle.std.specs.Prelude.{◌≡◌, cond, List, ℕ, ◌≤◌, ◌<◌, Option, Some, None, leb, length, get_or}
+use Rattle.mcw_bits.specs.Inner.Ones.{majority_of}
 use Rattle.mcw_bits.specs.Mcw.{size}
-use Rattle.mcw_bits.specs.declared.Four.{Four}
 
--- a window of size w with the commonest symbol v, at place i
-abbrev pub say_of : ℕ → ℕ → ℕ → ℕ
-say_of v i w = cond (leb w i) v silence
+-- the commonest bits of the first m windows, by the ones in each
+pub record Votes (ones : List ℕ) (m : ℕ) (votes : List (Option ℕ)) : Type 0 where
+  pub full : length votes ≡ 4
+  pub each : (j : ℕ) → j < m → get_or votes j None ≡ Some (majority_of (get_or ones j 0) (size j))
 
-abbrev pub sayings : Four → ℕ → List ℕ
-sayings f i =
-    say_of f.first i (size 0) ∷ say_of f.second i (size 1) ∷ say_of f.third i (size 2) ∷ say_of f.fourth i (size 3) ∷ []
+-- those of the first m windows that do not take part at place i have become silent
+pub record Hushed (votes : List (Option ℕ)) (i m : ℕ) (says : List (Option ℕ)) : Type 0 where
+  pub full : length says ≡ 4
+  pub past : (j : ℕ) → j < m → get_or says j None ≡ cond (leb (size j) i) (get_or votes j None) None
+  pub left : (j : ℕ) → m ≤ j → get_or says j None ≡ get_or votes j None
 
--- four guesses, of which those of windows that do not take part yet become silent
-abbrev pub hushed : List ℕ → ℕ → List ℕ
-hushed g i = sayings (record { first = get_or g 0 0; second = get_or g 1 0; third = get_or g 2 0; fourth = get_or g 3 0 }) i
+-- a window of size w with c ones, at place i
+abbrev pub say_of : ℕ → ℕ → ℕ → Option ℕ
+say_of c i w = cond (leb w i) (Some (majority_of c w)) None
 
--- four symbols
-pub record Symbols (f : Four) : Type 0 where
-  pub first_is : f.first < 256
-  pub second_is : f.second < 256
-  pub third_is : f.third < 256
-  pub fourth_is : f.fourth < 256
+-- all four
+pub record Sayings (ones : List ℕ) (i : ℕ) (says : List (Option ℕ)) : Type 0 where
+  pub full : length says ≡ 4
+  pub each : (j : ℕ) → j < 4 → get_or says j None ≡ say_of (get_or ones j 0) i (size j)

@@ -22,11 +22,11 @@ pub slice_bounds-mcw_translated-end-2 : goal.slice_bounds-mcw_translated-end-2
 slice_bounds-mcw_translated-end-2 c =
     let done : c.literal_refusal-number.result ≡ 0 = c.if-number-ne-DONE.false in
     let ran : Taken c.args.symbols.now c.args.out.now = literal_taken _ _ c.literal_refusal-number.ensures done in
-    let translation : Translation c.args.symbols.now c.args.out.now c.dense_alphabet-alphabet.result c.dense_alphabet-alphabet.new.out = record {
+    let translation : Translation c.args.symbols.now c.args.out.now c.from-alphabet.result c.dense_alphabet-found.new.out = record {
       fits = ran.fits;
       room = ran.room;
-      answers = c.dense_alphabet-alphabet.ensures.0;
-      leaves = c.dense_alphabet-alphabet.ensures.1;
+      answers = c.from-alphabet.ensures ∙ c.dense_alphabet-found.ensures.0;
+      leaves = c.dense_alphabet-found.ensures.1;
     } in
     taken_length translation
 
@@ -35,11 +35,11 @@ mcw_translated-r-requires c =
     let bytes : Bytes c.args.symbols.now = λ i l. omega (arith, c.type_inv.symbols i) in
     let done : c.literal_refusal-number.result ≡ 0 = c.if-number-ne-DONE.false in
     let ran : Taken c.args.symbols.now c.args.out.now = literal_taken _ _ c.literal_refusal-number.ensures done in
-    let translation : Translation c.args.symbols.now c.args.out.now c.dense_alphabet-alphabet.result c.dense_alphabet-alphabet.new.out = record {
+    let translation : Translation c.args.symbols.now c.args.out.now c.from-alphabet.result c.dense_alphabet-found.new.out = record {
       fits = ran.fits;
       room = ran.room;
-      answers = c.dense_alphabet-alphabet.ensures.0;
-      leaves = c.dense_alphabet-alphabet.ensures.1;
+      answers = c.from-alphabet.ensures ∙ c.dense_alphabet-found.ensures.0;
+      leaves = c.dense_alphabet-found.ensures.1;
     } in
     translated_asks c.args.symbols.now bytes (omega (arith, ran.many)) ran.fits (taken_is translation) (size_is translation)
 
@@ -53,11 +53,11 @@ pub returns : goal.returns
 returns c =
     let done : c.literal_refusal-number.result ≡ 0 = c.if-number-ne-DONE.false in
     let ran : Taken c.args.symbols.now c.args.out.now = literal_taken _ _ c.literal_refusal-number.ensures done in
-    let translation : Translation c.args.symbols.now c.args.out.now c.dense_alphabet-alphabet.result c.dense_alphabet-alphabet.new.out = record {
+    let translation : Translation c.args.symbols.now c.args.out.now c.from-alphabet.result c.dense_alphabet-found.new.out = record {
       fits = ran.fits;
       room = ran.room;
-      answers = c.dense_alphabet-alphabet.ensures.0;
-      leaves = c.dense_alphabet-alphabet.ensures.1;
+      answers = c.from-alphabet.ensures ∙ c.dense_alphabet-found.ensures.0;
+      leaves = c.dense_alphabet-found.ensures.1;
     } in
     let T = translation in
     let l = literal_ran c.args.symbols.now c.args.out.now c.literal_refusal-number.ensures done (size_is T) (c.mcw_translated-r.ensures ∙ ap outcome_of (taken_is T))

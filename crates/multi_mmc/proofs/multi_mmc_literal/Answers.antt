@@ -27,11 +27,11 @@ pub slice_bounds-samples-end-2 : goal.slice_bounds-samples-end-2
 slice_bounds-samples-end-2 c =
     let done : c.literal_refusal-number.result ≡ 0 = c.if-number-ne-DONE.false in
     let ran : Taken c.args.symbols.now c.args.out.now c.args.space.now = literal_taken _ _ _ c.literal_refusal-number.ensures done in
-    let translation : Translation c.args.symbols.now c.args.out.now c.value_sorted_alphabet-alphabet.result c.value_sorted_alphabet-alphabet.new.out = record {
+    let translation : Translation c.args.symbols.now c.args.out.now c.from-alphabet.result c.value_sorted_alphabet-found.new.out = record {
       fits = ran.fits;
       room = ran.room;
-      answers = c.value_sorted_alphabet-alphabet.ensures.0;
-      leaves = c.value_sorted_alphabet-alphabet.ensures.1;
+      answers = c.from-alphabet.ensures ∙ c.value_sorted_alphabet-found.ensures.0;
+      leaves = c.value_sorted_alphabet-found.ensures.1;
     } in
     taken_length translation
 
@@ -39,11 +39,11 @@ pub bits_estimate-requires : goal.bits_estimate-requires
 bits_estimate-requires c =
     let done : c.literal_refusal-number.result ≡ 0 = c.if-number-ne-DONE.false in
     let ran : Taken c.args.symbols.now c.args.out.now c.args.space.now = literal_taken _ _ _ c.literal_refusal-number.ensures done in
-    let translation : Translation c.args.symbols.now c.args.out.now c.value_sorted_alphabet-alphabet.result c.value_sorted_alphabet-alphabet.new.out = record {
+    let translation : Translation c.args.symbols.now c.args.out.now c.from-alphabet.result c.value_sorted_alphabet-found.new.out = record {
       fits = ran.fits;
       room = ran.room;
-      answers = c.value_sorted_alphabet-alphabet.ensures.0;
-      leaves = c.value_sorted_alphabet-alphabet.ensures.1;
+      answers = c.from-alphabet.ensures ∙ c.value_sorted_alphabet-found.ensures.0;
+      leaves = c.value_sorted_alphabet-found.ensures.1;
     } in
     let few : distinct c.args.symbols.now ≤ 2 = omega (arith, size_is translation, c.if-binary.true) in
     (ran.many, source_is translation, rw (two_needed c.args.symbols.now few) at ran.work)
@@ -53,11 +53,11 @@ returns-then-binary c =
     let bytes : Bytes c.args.symbols.now = λ i l. omega (arith, c.type_inv.symbols i) in
     let done : c.literal_refusal-number.result ≡ 0 = c.if-number-ne-DONE.false in
     let ran : Taken c.args.symbols.now c.args.out.now c.args.space.now = literal_taken _ _ _ c.literal_refusal-number.ensures done in
-    let translation : Translation c.args.symbols.now c.args.out.now c.value_sorted_alphabet-alphabet.result c.value_sorted_alphabet-alphabet.new.out = record {
+    let translation : Translation c.args.symbols.now c.args.out.now c.from-alphabet.result c.value_sorted_alphabet-found.new.out = record {
       fits = ran.fits;
       room = ran.room;
-      answers = c.value_sorted_alphabet-alphabet.ensures.0;
-      leaves = c.value_sorted_alphabet-alphabet.ensures.1;
+      answers = c.from-alphabet.ensures ∙ c.value_sorted_alphabet-found.ensures.0;
+      leaves = c.value_sorted_alphabet-found.ensures.1;
     } in
     let few : distinct c.args.symbols.now ≤ 2 = omega (arith, size_is translation, c.if-binary.true) in
     let bits = bits_are translation bytes few in
@@ -69,11 +69,11 @@ pub store_estimate-requires : goal.store_estimate-requires
 store_estimate-requires c =
     let done : c.literal_refusal-number.result ≡ 0 = c.if-number-ne-DONE.false in
     let ran : Taken c.args.symbols.now c.args.out.now c.args.space.now = literal_taken _ _ _ c.literal_refusal-number.ensures done in
-    let translation : Translation c.args.symbols.now c.args.out.now c.value_sorted_alphabet-alphabet.result c.value_sorted_alphabet-alphabet.new.out = record {
+    let translation : Translation c.args.symbols.now c.args.out.now c.from-alphabet.result c.value_sorted_alphabet-found.new.out = record {
       fits = ran.fits;
       room = ran.room;
-      answers = c.value_sorted_alphabet-alphabet.ensures.0;
-      leaves = c.value_sorted_alphabet-alphabet.ensures.1;
+      answers = c.from-alphabet.ensures ∙ c.value_sorted_alphabet-found.ensures.0;
+      leaves = c.value_sorted_alphabet-found.ensures.1;
     } in
     let more : 2 < distinct c.args.symbols.now = omega (arith, size_is translation, c.if-binary.false) in
     let t = ran in
@@ -84,15 +84,15 @@ pub returns : goal.returns
 returns c =
     let done : c.literal_refusal-number.result ≡ 0 = c.if-number-ne-DONE.false in
     let ran : Taken c.args.symbols.now c.args.out.now c.args.space.now = literal_taken _ _ _ c.literal_refusal-number.ensures done in
-    let translation : Translation c.args.symbols.now c.args.out.now c.value_sorted_alphabet-alphabet.result c.value_sorted_alphabet-alphabet.new.out = record {
+    let translation : Translation c.args.symbols.now c.args.out.now c.from-alphabet.result c.value_sorted_alphabet-found.new.out = record {
       fits = ran.fits;
       room = ran.room;
-      answers = c.value_sorted_alphabet-alphabet.ensures.0;
-      leaves = c.value_sorted_alphabet-alphabet.ensures.1;
+      answers = c.from-alphabet.ensures ∙ c.value_sorted_alphabet-found.ensures.0;
+      leaves = c.value_sorted_alphabet-found.ensures.1;
     } in
     let more : 2 < distinct c.args.symbols.now = omega (arith, size_is translation, c.if-binary.false) in
     many_ran c.args.symbols.now c.args.out.now c.args.space.now c.literal_refusal-number.ensures done (written_is translation) more
     (c.store_estimate.ensures.value
-    ∙ ap (λ (s : List ℕ). store_estimate s c.value_sorted_alphabet-alphabet.result.size) (taken_is translation)
+    ∙ ap (λ (s : List ℕ). store_estimate s c.from-alphabet.result.size) (taken_is translation)
     ∙ ap (store_estimate (sorted c.args.symbols.now)) (size_is translation))
     c.store_estimate.ensures.space_after

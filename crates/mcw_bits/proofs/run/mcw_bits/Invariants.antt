@@ -1,16 +1,9 @@
-use Prim.Native.Nat.{◌≤◌, ◌-◌}
-use mathlib.Core.Path.{◌≡◌}
-use lib.ListN.{length}
-use Rattle.capture.specs.Bits.{bits_of}
-use Rattle.capture.specs.Inner.Spots.{spot_of}
-use Rattle.mcw_bits.specs.Inner.Ones.{AllOnes, Ring}
-use Rattle.mcw_bits.proofs.Place.{RacedAt}
+-- What each turn of `run::mcw_bits` keeps true: `Running`, of the bits that are left.
+use Rattle.std.specs.Iterator.Adapters.{enumerate_count, enumerate_source}
+use Rattle.mcw_bits.proofs.Running.{Running}
 use Rattle.mcw_bits.proofs.run.mcw_bits.Given as goal
 
 abbrev pub invariant-loop-i : goal.invariant-loop-i
 invariant-loop-i l =
-    let s = bits_of l.symbols l.width l.n in
-    (l.i ≤ l.n) × (l.spot ≡ spot_of l.width l.i) × Ring s l.i l.ring × AllOnes s l.i l.ones × RacedAt s l.i l.leader l.scores l.t × (length l.g ≡ 4)
-
-abbrev pub decreases-loop-i : goal.decreases-loop-i
-decreases-loop-i l = l.n - l.i
+    (goal.iterator-loop-i).can_next l.i-iterator × (goal.iterator-loop-i).is_finite l.i-iterator
+    × Running l.fn.source (enumerate_count l.i-iterator) (enumerate_source l.i-iterator) l.ring l.ones l.race

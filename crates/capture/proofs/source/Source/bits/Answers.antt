@@ -4,7 +4,7 @@ use Rattle.capture.proofs.Sources.{source_bits, walk_all}
 use Rattle.capture.proofs.source.Source.bits.Goals as goal
 
 pub returns-clause-all : goal.returns-clause-all
-returns-clause-all c = walk_all _ _ ∙ c.self.view_is
+returns-clause-all c = rw c.from-width.ensures (walk_all _ _ ∙ c.self.view_is)
 
 pub returns-clause-bits : goal.returns-clause-bits
 returns-clause-bits c = rw (← c.self.view_is) (source_bits c.self.invariant)

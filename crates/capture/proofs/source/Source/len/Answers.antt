@@ -6,7 +6,7 @@ use Rattle.capture.proofs.Sources.{all_length}
 use Rattle.capture.proofs.source.Source.len.Goals as goal
 
 pub overflow_mul-result : goal.overflow_mul-result
-overflow_mul-result c = omega (arith, bits_small _ _ c.self.invariant.short c.self.invariant.narrow)
+overflow_mul-result c = rw c.from.ensures (omega (arith, bits_small _ _ c.self.invariant.short c.self.invariant.narrow))
 
 pub returns : goal.returns
-returns c = rw (← c.self.view_is) (sym (all_length _ _))
+returns c = rw (c.from.ensures, ← c.self.view_is) (sym (all_length _ _))
