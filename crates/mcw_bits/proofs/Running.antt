@@ -1,6 +1,6 @@
 -- What the run keeps true: before bit i each window has the number of its ones and the ring the latest bits, and the race is that over the places before
 -- i. Assumes nothing.
-use mathlib.Core.Path.{◌≡◌, sym, ap, ◌∙◌}
+use mathlib.Core.Path.{◌≡◌, refl, sym, ap, ◌∙◌}
 use mathlib.Core.List.{List, [], ◌∷◌}
 use Prim.Native.Nat.{ℕ, suc, ◌+◌, ◌-◌, ◌≤◌, ◌<◌, ◌%◌}
 use native.Mathlib.Numerals.{add-one}
@@ -15,7 +15,7 @@ use Rattle.race.specs.Inner.Raced.{Raced, Room, outcome_in, raced_at, raced_on, 
 use Rattle.race.proofs.Placing.{raced_none, raced_room, raced_place, raced_ends}
 use Rattle.mcw_bits.specs.Mcw.{size, said, outcome_of}
 use Rattle.mcw_bits.specs.Inner.Ones.{AllOnes, AllRoll, Ring, Rolled, Small}
-use Rattle.mcw_bits.specs.Inner.Say.{Sayings}
+use Rattle.mcw_bits.specs.Inner.Say.{sayings}
 use Rattle.mcw_bits.proofs.Ones.{all_roll, all_rolled, ones_small, ones_start, ring_next, ring_start, votes_heard}
 use Rattle.mcw_bits.proofs.Place.{same_verdict, said_silent}
 
@@ -51,18 +51,18 @@ module _ {s : List ℕ} {i : ℕ} {left ring ones : List ℕ} {race : Raced} (B 
     pub rolling : AllRoll ones ring i x
     rolling = all_roll B R.ones_are R.ring_is inside (sym comes.0)
 
-    pub goes : {gs : List (Option ℕ)} {next : List ℕ} {race' : Raced} → Sayings ones i gs → race' ≡ raced_on race gs x
+    pub goes : {next : List ℕ} {race' : Raced} → race' ≡ raced_on race (sayings ones i) x
         → Rolled ones ring i x 4 next → Running s (i + 1) rest (set ring (i % 4096) x) next race'
-    goes {gs} S r N =
+    goes r N =
         record {
           within = omega (arith, inside);
           left_is = rw (add-one i) (sym comes.1);
           ring_is = ring_next R.ring_is (sym comes.0);
           ones_are = all_rolled B R.ones_are R.ring_is inside (sym comes.0) N;
           race_is =
-              r ∙ ap (λ (q : Raced). raced_on q gs x) R.race_is
-              ∙ raced_place 4 (size 0) (said s) s (omega arith) i x gs S.full
-              (λ j l. same_verdict (votes_heard B R.ones_are R.within S j l) (sym comes.0))
+              r ∙ ap (λ (q : Raced). raced_on q (sayings ones i) x) R.race_is
+              ∙ raced_place 4 (size 0) (said s) s (omega arith) i x (sayings ones i) refl
+              (λ j l. same_verdict (votes_heard B R.ones_are R.within j l) (sym comes.0))
               (λ l j k. said_silent s i l j k);
         }
 

@@ -2,7 +2,7 @@
 ghost use Rattle.std.specs.Prelude.{◌≡◌};
 ghost use Rattle.mcw_bits.specs.Mcw.{outcome_of};
 
-use crate::say::say_all;
+use crate::say::place;
 use crate::windows::roll_all;
 use capture::source::Source;
 use race::{Outcome, Race};
@@ -15,7 +15,7 @@ pub fn mcw_bits(source: Source) -> Outcome
     let mut ones = [0usize; 4];
     let mut race = Race::<4>::new();
     for (i, bit) in source.bits().enumerate() {
-        race.step(&say_all(&ones, i), bit);
+        place(&mut race, &ones, i, bit);
         roll_all(&mut ones, &ring, i, bit);
         ring[i % 4096] = bit;
     }

@@ -30,6 +30,12 @@ pub record Site (s : List ℕ) (k i : ℕ) (cnt latest : List ℕ) (c : Candidat
   pub taking_is : Taking taking (part_at i)
   pub asks : Asks cnt latest k c xs (get_or cnt x 0) taking r
 
+pub site_of : {s : List ℕ} {k i : ℕ} {cnt latest : List ℕ} {c : Candidates} {x xs taking : ℕ} {r : Heard} → Samples s k → i < length s
+    → Kept s k i cnt latest c → x ≡ get_or s i 0 → ((j : ℕ) → j < 4 → lane xs j ≡ x) → Taking taking (part_at i)
+    → Asks cnt latest k c xs (get_or cnt x 0) taking r → Site s k i cnt latest c x xs taking r
+site_of S h K e X T A =
+    record { samples = S; here = h; kept = K; sample_is = e; spread_is = X; taking_is = T; asks = A }
+
 module _ {s : List ℕ} {k i : ℕ} {cnt latest : List ℕ} {c : Candidates} {x xs taking : ℕ} {r : Heard} (P : Site s k i cnt latest c x xs taking r) where
   until : i ≤ length s
   until = omega (arith, P.here)

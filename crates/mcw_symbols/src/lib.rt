@@ -13,7 +13,7 @@ mod windows;
 
 // For each window a symbol that may be the commonest; twice how often it stands there, and 1 more where it is seen later than every symbol that
 // stands as often or more often; and a bound, which twice how often any other stands there is not above.
-#[derive(Clone, Copy)]
+#[derive(Clone, Copy, Default)]
 pub struct Candidates {
     pub symbols: u64,
     pub keys: u64,

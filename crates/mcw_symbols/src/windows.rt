@@ -2,7 +2,6 @@
 ghost use Rattle.std.specs.Prelude.{◌≡◌, ◌+◌, ◌*◌, ◌<◌, length};
 ghost use Rattle.mcw_symbols.specs.Inner.Windows.{Bytes, Counted, Enterable, Enters, Gone, Leavable, Leaves, Roomy, ones, starts};
 
-use capture::bits::wide;
 use mcw_bits::{FIRST, FOURTH, SECOND, THIRD};
 
 // The oldest sample leaves the window of `size` samples if it is full. `unit` is 1 in the window's lane; returns the sample in that lane, or 256.
@@ -13,7 +12,7 @@ fn leave(cnt: &mut [u64; 256], s: &[u8], i: usize, size: usize, unit: u64) -> u6
     if i < size {
         return 256 * unit;
     }
-    let d = wide(s[i - size]);
+    let d = usize::from(s[i - size]);
     cnt[d] = cnt[d] - 2 * unit;
     d as u64 * unit
 }

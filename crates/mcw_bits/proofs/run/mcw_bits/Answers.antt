@@ -19,11 +19,12 @@ loop-i-init c =
     let R = starts c.args.source c.bits.ensures.all c.new-race.ensures in
     rw (b, a.source, a.count) ((tt, tt, inl (omega (arith, few_left c.bits.ensures.bits R))), tt, R)
 
-pub say_all-requires : goal.say_all-requires
-say_all-requires c = asks c.bits.ensures.bits (at c.in-Some.ensures.steps.1 c.loop-i.invariant.2)
-
-pub step-requires : goal.step-requires
-step-requires c = (omega arith, (omega arith, room c.bits.ensures.bits c.loop-i.invariant.2))
+pub place-requires : goal.place-requires
+place-requires c =
+    record {
+      room = room c.bits.ensures.bits c.loop-i.invariant.2;
+      small = asks c.bits.ensures.bits (at c.in-Some.ensures.steps.1 c.loop-i.invariant.2);
+    }
 
 pub roll_all-requires : goal.roll_all-requires
 roll_all-requires c = let st = c.in-Some.ensures.steps in rolling c.bits.ensures.bits (at st.1 c.loop-i.invariant.2) st.0
@@ -31,6 +32,6 @@ roll_all-requires c = let st = c.in-Some.ensures.steps in rolling c.bits.ensures
 pub loop-i-preserved : goal.loop-i-preserved
 loop-i-preserved c =
     let st = c.in-Some.ensures.steps in
-    let R = goes c.bits.ensures.bits (at st.1 c.loop-i.invariant.2) st.0 c.say_all.ensures c.step.ensures c.roll_all.ensures in
+    let R = goes c.bits.ensures.bits (at st.1 c.loop-i.invariant.2) st.0 c.place.ensures c.roll_all.ensures in
     let n = st.2 ∙ ap (λ (k : ℕ). k + 1) (sym st.1) in
     rw n ((tt, tt, inl (omega (arith, few_left c.bits.ensures.bits R))), tt, R)

@@ -1,19 +1,18 @@
--- `score::score` meets its contract. Where no window is right the standing stays; else `lead` takes it on by the four numbers. Assumes nothing.
-use mathlib.Core.Path.{sym, ap}
-use lib.ListN.{length}
-use Rattle.mcw_symbols.proofs.Scoring.{none_scores}
+-- `score::score` meets its contract. Where no window is right the standing stays; else `lead` takes it on by the four verdicts. Assumes nothing.
+use mathlib.Core.Path.{ap, sym, ◌∙◌}
+use Rattle.race.specs.Inner.Raced.{Raced, counted, pointed}
+use Rattle.mcw_symbols.specs.Inner.Score.{numbers, right}
+use Rattle.mcw_symbols.proofs.Scoring.{counted_alone, counted_led}
 use Rattle.mcw_symbols.proofs.score.score.Goals as goal
 
-pub returns-then-masks-eq0 : goal.returns-then-masks-eq0
-returns-then-masks-eq0 c = none_scores c.requires c.if-masks-eq0.true
+pub returns-then-masks-ne0 : goal.returns-then-masks-ne0
+returns-then-masks-ne0 c =
+    c.lead.ensures
+    ∙ rw (c.verdicts.ensures, c.count.ensures, c.verdict_of.ensures)
+    (counted_led c.args.race.now c.args.masks _ c.winner-winner.ensures.within c.winner-winner.ensures.value)
 
-pub slice_bounds-lead-end-2 : goal.slice_bounds-lead-end-2
-slice_bounds-lead-end-2 c = sym (ap length c.fill.ensures)
-
-pub lead-requires : goal.lead-requires
-lead-requires c =
-    rw c.fill.ensures c.requires.leadable
-
-pub returns : goal.returns
-returns c =
-    record { leads = rw c.fill.ensures at c.lead.ensures }
+pub returns-else-masks-ne0 : goal.returns-else-masks-ne0
+returns-else-masks-ne0 c =
+    c.count.ensures
+    ∙ rw c.verdict_of.ensures
+    (counted_alone c.args.race.now c.args.masks _ c.winner-winner.ensures.within c.winner-winner.ensures.value c.if-masks-ne0.false)
