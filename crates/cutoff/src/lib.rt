@@ -1,7 +1,7 @@
 // The cutoffs of the repetition count test of SP 800-90B 4.4.1, for a false alarm probability of 2^-20.
 #![tactic(auto)]
 
-ghost use Rattle.std.specs.Prelude.{◌≡◌, true};
+ghost use Rattle.std.specs.Prelude.{◌≡◌, ◌↔◌, IsTrue};
 ghost use Rattle.cutoff.specs.Cutoff.{Entry, cutoff_of, entry_of, in_range, told};
 
 use answer::{DONE, Refusal};
@@ -46,7 +46,7 @@ impl From<Result<u16, Refusal>> for Cutoff {
 
 // The entropy in whole 1/64 bit. The product is exact.
 fn entry_of(entropy: f64) -> usize
-    requires { in_range entropy ≡ true }
+    requires { IsTrue (in_range entropy) }
     ensures { result ≡ entry_of entropy }
 {
     truncating_f64_to_u64(entropy * 64.0) as usize
@@ -64,7 +64,7 @@ pub fn cutoff_for(entropy: f64) -> Result<u16, Refusal>
 
 // Whether a number is one of the cutoffs, without the table: the first entry whose cutoff is no larger has it, or none does.
 pub fn is_cutoff(n: u16) -> bool
-    ensures { (result ≡ true → Entry n) × (Entry n → result ≡ true) }
+    ensures { IsTrue result ↔ Entry n }
 {
     if n < 2 {
         return false;

@@ -1,5 +1,5 @@
 // The running test: a start, and a sample.
-ghost use Rattle.std.specs.Prelude.{◌≡◌, true};
+ghost use Rattle.std.specs.Prelude.{◌≡◌, ◌↔◌, IsTrue};
 ghost use Rattle.answer.specs.Results.{number_in};
 ghost use Rattle.repetition.specs.Repetition.{Sampled, alarm_of, begin_number, begun};
 ghost use Rattle.repetition.specs.Inner.Counted.{counted};
@@ -48,7 +48,8 @@ impl From<Result<bool, Refusal>> for Alarm {
 impl RepetitionTest {
     // A start, whatever was there before: the cutoff for the entropy, and nothing heard. A refusal leaves what was there.
     pub fn begin(&mut self, entropy: f64) -> Result<(), Refusal>
-        ensures { (number_in result ≡ begin_number entropy) × (self.new ≡ begun self.old entropy) }
+        ensures number { number_in result ≡ begin_number entropy }
+        ensures state { self.new ≡ begun self.old entropy }
     {
         let cutoff = cutoff_for(entropy)?;
         *self = RepetitionTest {
@@ -75,7 +76,7 @@ impl RepetitionTest {
 
     // Whether a start and samples could have left the state.
     fn is_started(self) -> bool
-        ensures { (result ≡ true → Started self) × (Started self → result ≡ true) }
+        ensures { IsTrue result ↔ Started self }
     {
         if !is_cutoff(self.cutoff) {
             return false;

@@ -20,7 +20,8 @@ pub extern "C" fn abutfern_repetition_cutoff(entropy: f64) -> Cutoff
 // Starts the test, whatever was heard before. Answers 0, or 5 for the entropy.
 #[unsafe(no_mangle)]
 pub extern "C" fn abutfern_repetition_start(state: &mut RepetitionTest, entropy: f64) -> u64
-    ensures { (result ≡ begin_number entropy) × (state.new ≡ begun state.old entropy) }
+    ensures number { result ≡ begin_number entropy }
+    ensures state { state.new ≡ begun state.old entropy }
 {
     match state.begin(entropy) {
         Ok(()) => DONE,

@@ -9,7 +9,9 @@ returns-in_err-cutoff c =
     let e = c.in_err-cutoff.field-0.0 in
     let said = refused c.args.self.now c.args.entropy e c.in_err-cutoff.ensures in
     let same : c.from_residual.result ≡ Err e = search rules in
-    (ap number_in same ∙ said.0, said.1)
+    record { number = ap number_in same ∙ said.0; state = said.1 }
 
 pub returns : goal.returns
-returns c = taken c.args.self.now c.args.entropy c.in_ok-cutoff.cutoff c.in_ok-cutoff.ensures
+returns c =
+    let said = taken c.args.self.now c.args.entropy c.in_ok-cutoff.cutoff c.in_ok-cutoff.ensures in
+    record { number = said.0; state = said.1 }
