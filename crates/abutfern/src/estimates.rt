@@ -13,7 +13,7 @@ use board::Figure;
 pub extern "C" fn abutfern_prediction_estimate_function(p: f64, max_run_len: u64, n: u64) -> Value
     ensures { result ≡ function_of p max_run_len n }
 {
-    function::prediction_estimate_function(p, max_run_len, n)
+    function::prediction_estimate_function(p, max_run_len, n).into()
 }
 
 // p_local over ldomain..1, by bisection.
@@ -21,7 +21,7 @@ pub extern "C" fn abutfern_prediction_estimate_function(p: f64, max_run_len: u64
 pub extern "C" fn abutfern_calc_p_local(max_run_len: u64, n: u64, ldomain: f64) -> Solved
     ensures { result ≡ local_of max_run_len n ldomain }
 {
-    bisect::calc_p_local(max_run_len, n, ldomain)
+    bisect::calc_p_local(max_run_len, n, ldomain).into()
 }
 
 // The estimate of C correct of N predictions with a longest run, over an alphabet of k symbols.
@@ -29,7 +29,7 @@ pub extern "C" fn abutfern_calc_p_local(max_run_len: u64, n: u64, ldomain: f64) 
 pub extern "C" fn abutfern_prediction_estimate(c: u64, n: u64, max_run_len: u64, k: u64) -> Answer
     ensures { result ≡ estimate_of c n max_run_len k }
 {
-    prediction::estimate::prediction_estimate(c, n, max_run_len, k)
+    prediction::estimate::prediction_estimate(c, n, max_run_len, k).into()
 }
 
 // The board figure of the four answers.

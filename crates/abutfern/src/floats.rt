@@ -52,5 +52,5 @@ pub extern "C" fn abutfern_ln(x: f64) -> f64
 pub extern "C" fn abutfern_min_entropy(p: f64) -> Value
     ensures { result ≡ min_entropy_of p }
 {
-    entropy::min_entropy(p)
+    entropy::min_entropy(p).into()
 }

@@ -2,14 +2,13 @@
 use Prim.Native.Nat.{ℕ, zero, suc, ◌≤◌, zero-le, suc-le-suc}
 use native.Mathlib.Omega.{arith}
 use lib.Ieee.{Float}
-use Rattle.bisect.specs.Bisection.{local_rounds, opening, round_limit, rounds_begun, rounds_of, turned}
-use Rattle.bisect.specs.declared.Bracket.{Bracket}
-use Rattle.bisect.specs.declared.Turn.{Turn}
-use Rattle.bisect.specs.declared.Turn.TheVariants.{Stop, On}
+use Rattle.bisect.specs.Bisection.{Turn, local_rounds, opening, round_limit, rounds_begun, rounds_of, turned}
+use Rattle.bisect.specs.declared.bracket.Bracket.{Bracket}
+use Rattle.std.specs.declared.ops.ControlFlow.TheVariants.{Break, Continue}
 
 by_turn : (k : ℕ) (t : Turn) (f : Bracket → ℕ) → ((b : Bracket) → f b ≤ k) → rounds_of t f ≤ suc k
-by_turn k (Stop p) f h = suc-le-suc zero-le
-by_turn k (On b) f h = omega (arith, h b)
+by_turn k (Break p) f h = suc-le-suc zero-le
+by_turn k (Continue b) f h = omega (arith, h b)
 
 pub rounds_few : (k : ℕ) (b : Bracket) (ldomain : Float) (run n : ℕ) → rounds_begun k b ldomain run n ≤ k
 unfolding rounds_begun

@@ -14,6 +14,7 @@ use Rattle.rounding.proofs.FromZero.{nonneg, cross_of_le, le_self, le_of_cross}
 use Rattle.rounding.proofs.Midpoint.{midpoint_range}
 use Rattle.rounding.proofs.Ranges.{Between}
 use Rattle.bisect.specs.Bisection.{
+  Turn,
   advanced,
   checked,
   halved,
@@ -30,9 +31,8 @@ use Rattle.bisect.specs.Bisection.{
 }
 use Rattle.rounding.specs.Doubles.{one, two}
 use Rattle.counts.specs.Doubles.{larger, at_most_one, in_closed, in_open}
-use Rattle.bisect.specs.declared.Bracket.{Bracket}
-use Rattle.bisect.specs.declared.Turn.{Turn}
-use Rattle.bisect.specs.declared.Turn.TheVariants.{Stop, On}
+use Rattle.bisect.specs.declared.bracket.Bracket.{Bracket}
+use Rattle.std.specs.declared.ops.ControlFlow.TheVariants.{Break, Continue}
 
 -- x is a double from lo to 1
 pub record Inside (lo x : Float) : Type 0 where
@@ -78,12 +78,12 @@ pub record Bracketed (lo : Float) (b : Bracket) : Type 0 where
   pub mid : Inside lo b.p
 
 data Turned (lo : Float) : Turn → Type 0 where
-  stops : {p : Float} → Inside lo p → Turned lo (Stop p)
-  goes : {b : Bracket} → Bracketed lo b → Turned lo (On b)
+  stops : {p : Float} → Inside lo p → Turned lo (Break p)
+  goes : {b : Bracket} → Bracketed lo b → Turned lo (Continue b)
 
 -- three checks in a row, which stop at p, q and r, or go on
 module _ (lo p q r : Float) (on : Turn) (i : Inside lo p) (j : Inside lo q) (k : Inside lo r) where
-  by_checks : (a b c : Bool) → (a ≡ false → Turned lo on) → Turned lo (cond a (Stop p) (cond b (Stop q) (cond c (Stop r) on)))
+  by_checks : (a b c : Bool) → (a ≡ false → Turned lo on) → Turned lo (cond a (Break p) (cond b (Break q) (cond c (Break r) on)))
   by_checks true b c h = stops i
   by_checks false true c h = stops j
   by_checks false false true h = stops k
@@ -109,7 +109,7 @@ module _ (lo : Float) (n : T (nonneg lo)) (top : T (le lo one)) where
   advanced_inside : (b next : Bracket) → Bracketed lo b → Bracketed lo next → Turned lo (advanced b next)
   unfolding advanced
   advanced_inside b next h g =
-      by_checks lo b.hbound b.hbound b.hbound (On next) h.high h.high h.high
+      by_checks lo b.hbound b.hbound b.hbound (Continue next) h.high h.high h.high
       (not (in_open next.p b.lbound b.hbound))
       (eq b.p next.p)
       (not (in_closed next.p_val b.lvalue b.hvalue))
@@ -138,7 +138,7 @@ module _ (lo : Float) (n : T (nonneg lo)) (top : T (le lo one)) where
       (not (in_closed log_alpha b.lvalue b.hvalue))
       (λ e. advanced_inside b (halved b run k) h (halved_inside b run k h (ordered b.lbound b.hbound h.low h.high e)))
 
-  by_reached : (a : Bool) (p : Float) (on : Turn) → Inside lo p → Turned lo on → Turned lo (cond a (Stop p) on)
+  by_reached : (a : Bool) (p : Float) (on : Turn) → Inside lo p → Turned lo on → Turned lo (cond a (Break p) on)
   by_reached true p on h g = stops h
   by_reached false p on h g = g
 
@@ -148,8 +148,8 @@ module _ (lo : Float) (n : T (nonneg lo)) (top : T (le lo one)) where
       by_reached (reached b.p_val) b.p (checked (narrowed b) lo run k) h.mid (checked_inside (narrowed b) run k (narrowed_inside b h))
 
   by_turn : (t : Turn) (f : Bracket → Float) → Turned lo t → ((b : Bracket) → Bracketed lo b → Inside lo (f b)) → Inside lo (value_of t f)
-  by_turn (Stop p) f (stops h) g = h
-  by_turn (On b) f (goes h) g = g b h
+  by_turn (Break p) f (stops h) g = h
+  by_turn (Continue b) f (goes h) g = g b h
 
   solution_inside : (m : ℕ) (b : Bracket) (run k : ℕ) → Bracketed lo b → Inside lo (solution m b lo run k)
   unfolding solution

@@ -5,10 +5,9 @@ use native.Mathlib.Omega.{arith}
 use lib.Ieee.{Float}
 use Rattle.answer.specs.Numbers.{done}
 use Rattle.answer.specs.declared.Solved.{Solved}
-use Rattle.bisect.specs.Bisection.{local_rounds, local_value, opening, round_limit, turned, solution, rounds_begun, value_of, rounds_of}
-use Rattle.bisect.specs.declared.Bracket.{Bracket}
-use Rattle.bisect.specs.declared.Turn.{Turn}
-use Rattle.bisect.specs.declared.Turn.TheVariants.{Stop, On}
+use Rattle.bisect.specs.Bisection.{Turn, local_rounds, local_value, opening, round_limit, turned, solution, rounds_begun, value_of, rounds_of}
+use Rattle.bisect.specs.declared.bracket.Bracket.{Bracket}
+use Rattle.std.specs.declared.ops.ControlFlow.TheVariants.{Break, Continue}
 
 abbrev answered : ℕ → Float → Solved
 answered rounds value = record { number = done; rounds = rounds; value = value }
@@ -40,10 +39,10 @@ module _ (m i : ℕ) {b : Bracket} {ldomain : Float} {run n : ℕ} {value : Floa
       ∙ sym (ap (λ (k : ℕ). i + rounds_begun k b ldomain run n) (one_less h)) ∙ u.to_rounds
 
   -- the round that stops gives the solution
-  pub stopped : i < m → {p : Float} → turned b ldomain run n ≡ Stop p → answered (i + 1) p ≡ answered rounds value
+  pub stopped : i < m → {p : Float} → turned b ldomain run n ≡ Break p → answered (i + 1) p ≡ answered rounds value
   stopped h e = same_answer (rounds_by h e) (value_by h e)
 
-  pub goes_on : i < m → {next : Bracket} → turned b ldomain run n ≡ On next → Underway m (i + 1) next ldomain run n value rounds
+  pub goes_on : i < m → {next : Bracket} → turned b ldomain run n ≡ Continue next → Underway m (i + 1) next ldomain run n value rounds
   goes_on h {next} e =
       record { to_value = value_by h e; to_rounds = omega (arith, rounds_by h e) }
 
@@ -55,12 +54,12 @@ module _ (m i : ℕ) {b : Bracket} {ldomain : Float} {run n : ℕ} {value : Floa
   unfolding solution
   spent_value h = sym (ap (λ (k : ℕ). solution k b ldomain run n) (all_past h)) ∙ u.to_value
 
-  spent_rounds : m ≤ i → i ≡ rounds
+  spent_rounds : m ≤ i → i ≤ m → m ≡ rounds
   unfolding rounds_begun
-  spent_rounds h = omega (arith, ap (λ (k : ℕ). i + rounds_begun k b ldomain run n) (all_past h), u.to_rounds)
+  spent_rounds h k = omega (arith, ap (λ (k : ℕ). i + rounds_begun k b ldomain run n) (all_past h), u.to_rounds)
 
-  pub spent : m ≤ i → answered i b.p ≡ answered rounds value
-  spent h = same_answer (spent_rounds h) (spent_value h)
+  pub spent : m ≤ i → i ≤ m → answered m b.p ≡ answered rounds value
+  spent h k = same_answer (spent_rounds h k) (spent_value h)
 
 -- no round is past
 pub begun : {b : Bracket} {ldomain : Float} {run n : ℕ} → b ≡ opening ldomain run n

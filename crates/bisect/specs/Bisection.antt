@@ -1,6 +1,8 @@
 -- The bisection for p_local, with its interval checks and its cycle check in the order of document 001. Definitions only.
 use Rattle.std.specs.Prelude.{ℕ, zero, suc, ◌+◌, Bool, true, false, cond, not, ◌||◌, Float}
 use Rattle.std.specs.Float.{inf}
+use Rattle.std.specs.declared.ops.ControlFlow.{ControlFlow}
+use Rattle.std.specs.declared.ops.ControlFlow.TheVariants.{Break, Continue}
 use Rattle.std.specs.Float.Ieee.{lt, le, eq}
 use Rattle.answer.specs.Numbers.{done, impossible, out_of_range}
 use Rattle.answer.specs.Refused.{refused_solved}
@@ -11,9 +13,7 @@ use Rattle.ln.specs.Ln.{ln_of}
 use Rattle.counts.specs.Counts.{impossible_run, outside}
 use Rattle.counts.specs.Doubles.{epsilon, decimal, larger, at_most_one, in_closed, in_open}
 use Rattle.function.specs.Function.{value_at}
-use Rattle.bisect.specs.declared.Bracket.{Bracket}
-use Rattle.bisect.specs.declared.Turn.{Turn}
-use Rattle.bisect.specs.declared.Turn.TheVariants.{Stop, On}
+use Rattle.bisect.specs.declared.bracket.Bracket.{Bracket}
 
 -- "at most 1,076" rounds are begun
 abbrev pub round_limit : ℕ
@@ -43,32 +43,36 @@ halved b run n =
     let m = midpoint b.lbound b.hbound in
     record { lbound = b.lbound; hbound = b.hbound; lvalue = b.lvalue; hvalue = b.hvalue; p = m; p_val = value_at m run n }
 
+-- what a round comes to: it breaks off with the solution, or goes on with narrower bounds
+abbrev pub Turn : Type 0
+Turn = ControlFlow Float Bracket
+
 -- the last checks of a round: p strictly within its bounds, no cycle, and the value there within the values of the bounds
 unfoldable pub advanced : Bracket → Bracket → Turn
 advanced b next =
-    cond (not (in_open next.p b.lbound b.hbound)) (Stop b.hbound)
-    (cond (eq b.p next.p) (Stop b.hbound)
-    (cond (not (in_closed next.p_val b.lvalue b.hvalue)) (Stop b.hbound) (On next)))
+    cond (not (in_open next.p b.lbound b.hbound)) (Break b.hbound)
+    (cond (eq b.p next.p) (Break b.hbound)
+    (cond (not (in_closed next.p_val b.lvalue b.hvalue)) (Break b.hbound) (Continue next)))
 
 -- the checks on bounds that were just narrowed
 unfoldable pub checked : Bracket → Float → ℕ → ℕ → Turn
 checked b ldomain run n =
-    cond (le b.hbound b.lbound) (Stop (at_most_one (larger b.lbound b.hbound)))
-    (cond (not (in_closed b.lbound ldomain one) || not (in_closed b.hbound ldomain one)) (Stop one)
-    (cond (not (in_closed log_alpha b.lvalue b.hvalue)) (Stop one) (advanced b (halved b run n))))
+    cond (le b.hbound b.lbound) (Break (at_most_one (larger b.lbound b.hbound)))
+    (cond (not (in_closed b.lbound ldomain one) || not (in_closed b.hbound ldomain one)) (Break one)
+    (cond (not (in_closed log_alpha b.lvalue b.hvalue)) (Break one) (advanced b (halved b run n))))
 
 -- one round
 unfoldable pub turned : Bracket → Float → ℕ → ℕ → Turn
-turned b ldomain run n = cond (reached b.p_val) (Stop b.p) (checked (narrowed b) ldomain run n)
+turned b ldomain run n = cond (reached b.p_val) (Break b.p) (checked (narrowed b) ldomain run n)
 
--- what a round comes to: its solution, or what f makes of the narrower bounds
+-- of a round: its solution, or what f makes of the narrower bounds
 abbrev pub value_of : Turn → (Bracket → Float) → Float
-value_of (Stop p) f = p
-value_of (On b) f = f b
+value_of (Break p) f = p
+value_of (Continue b) f = f b
 
 abbrev pub rounds_of : Turn → (Bracket → ℕ) → ℕ
-rounds_of (Stop p) f = 1
-rounds_of (On b) f = 1 + f b
+rounds_of (Break p) f = 1
+rounds_of (Continue b) f = 1 + f b
 
 -- the solution, and the number of rounds begun, with at most k rounds more
 unfoldable pub solution : ℕ → Bracket → Float → ℕ → ℕ → Float

@@ -1,11 +1,12 @@
 -- What is known where nothing is refused. Assumes nothing.
 use mathlib.Core.Path.{◌≡◌, refl}
 use mathlib.Core.Bool.{Bool, true, false, ◌&&◌, ◌||◌}
-use Prim.Native.Nat.{ℕ, ◌≤◌, ◌<◌}
+use Prim.Native.Nat.{ℕ, ◌≤◌}
 use native.Mathlib.Nat.{pos_of_ne-zero}
 use borrow.Author.Tests.{ltb-false, eqb-false, lt-ltb}
 use lib.Dec.{ltb, eqb}
 use Rattle.counts.specs.Counts.{count_limit, impossible_counts, impossible_run}
+use Rattle.counts.specs.Inner.Possible.{Possible}
 
 neither : (a b : Bool) → (a || b) ≡ false → (a ≡ false) × (b ≡ false)
 neither true b h = (h, cc h)
@@ -16,14 +17,6 @@ unfolding impossible_run
 run_can_be run n h =
     let k = neither (ltb count_limit n) (ltb n run) h in
     (ltb-false n run k.1, ltb-false count_limit n k.0)
-
-pub record Possible (c n run k : ℕ) : Type 0 where
-  pub hits : c ≤ n
-  pub run_hits : run ≤ c
-  pub some_run : 0 < c → 0 < run
-  pub least : 1 ≤ k
-  pub most : k ≤ 256
-  pub few : n ≤ count_limit
 
 not_both : (a b : Bool) → (a && b) ≡ false → a ≡ true → b ≡ false
 not_both true b h e = h

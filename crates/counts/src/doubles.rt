@@ -6,13 +6,14 @@ ghost use Rattle.counts.specs.Doubles.{at_most_one, in_closed, in_open, larger};
 pub fn at_most_one(x: f64) -> f64
     ensures { result ≡ at_most_one x }
 {
-    if x < 1.0 { x } else { 1.0 }
+    x.min(1.0)
 }
 
 // `a.max(b)` of a number a: a where b is a NaN.
 pub fn larger_of(a: f64, b: f64) -> f64
     ensures { result ≡ larger a b }
 {
+    // Kept: std's max may give either of 0.0 and -0.0, and b for an a that is a NaN.
     if a < b { b } else { a }
 }
 
@@ -21,15 +22,10 @@ pub fn in_closed_interval(x: f64, a: f64, b: f64) -> bool
     ensures { result ≡ in_closed x a b }
 {
     if a > b {
-        if x >= b {
-            return x <= a;
-        }
-        return false;
+        b <= x && x <= a
+    } else {
+        a <= x && x <= b
     }
-    if x >= a {
-        return x <= b;
-    }
-    false
 }
 
 // `INOPENINTERVAL(x, a, b)`.
@@ -37,13 +33,8 @@ pub fn in_open_interval(x: f64, a: f64, b: f64) -> bool
     ensures { result ≡ in_open x a b }
 {
     if a > b {
-        if x > b {
-            return x < a;
-        }
-        return false;
+        b < x && x < a
+    } else {
+        a < x && x < b
     }
-    if x > a {
-        return x < b;
-    }
-    false
 }

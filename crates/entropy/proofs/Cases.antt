@@ -1,9 +1,9 @@
 -- The cases of the definition, one law for each. Assumes nothing.
-use mathlib.Core.Path.{◌≡◌}
+use mathlib.Core.Path.{◌≡◌, refl}
 use Prim.Native.Nat.{◌+◌, ◌-◌, ◌*◌}
 use mathlib.Core.Bool.{true, false}
 use lib.Dec.{T}
-use lib.Ieee.{Float, le, eq}
+use lib.Ieee.{Float, binary64, of_bits, le, eq}
 use lib.Ieee.Bits.{is_true}
 use Rattle.answer.specs.Numbers.{done, out_of_range}
 use Rattle.answer.specs.Refused.{refused_value}
@@ -21,6 +21,16 @@ unfolding entropy_units
 units_between p e = rw e
 
 -- ---- the answer
+
+-- the code's literals
+pub one_is : of_bits binary64 0x3ff0_0000_0000_0000 ≡ one
+unfolding of_bits
+one_is = refl
+
+pub least_is : of_bits binary64 0x3f70_0000_0000_0000 ≡ least
+unfolding of_bits
+least_is = refl
+
 pub answer_in_lem : (p : Float) → le least p ≡ true → le p one ≡ true → min_entropy_of p ≡ record { number = done; value = entropy_of p }
 unfolding min_entropy_of
 answer_in_lem p e g = rw (e, g)

@@ -3,11 +3,13 @@
 #![tactic(auto)]
 
 ghost use Rattle.std.specs.Prelude.{◌≡◌};
+ghost use Rattle.answer.specs.Results.{value_of};
 ghost use Rattle.entropy.specs.Entropy.{bits_of, entropy_units, leading, log_digits, whole_bits};
 ghost use Rattle.entropy.specs.MinEntropy.{min_entropy_of};
 
-use answer::{DONE, OUT_OF_RANGE, Value};
+use answer::Refusal;
 
+// A probability times 2^j.
 #[derive(Clone, Copy)]
 struct Scaled {
     x: f64,
@@ -19,12 +21,13 @@ fn doubled(p: f64) -> Scaled
     ensures { (result.x ≡ leading p) × (result.j ≡ whole_bits p) }
 {
     let mut x = p;
-    let mut j: u32 = 0;
-    while j < 8 && x < 1.0 {
-        x = x * 2.0;
-        j += 1;
+    for j in 0..8 {
+        if !(x < 1.0) {
+            return Scaled { x, j };
+        }
+        x *= 2.0;
     }
-    Scaled { x: x, j: j }
+    Scaled { x, j: 8 }
 }
 
 // log2 of a number from 1 to 2, in units: 24 squarings, each of which gives a binary digit.
@@ -33,15 +36,13 @@ fn log_units(start: f64) -> u32
 {
     let mut x = start;
     let mut bits: u32 = 0;
-    let mut i: u32 = 0;
-    while i < 24 {
-        x = x * x;
-        bits = bits * 2;
+    for _ in 0..24u32 {
+        x *= x;
+        bits *= 2;
         if x >= 2.0 {
-            x = x * 0.5;
+            x *= 0.5;
             bits += 1;
         }
-        i += 1;
     }
     bits
 }
@@ -51,13 +52,11 @@ fn entropy_units(p: f64) -> u32
     ensures { result ≡ entropy_units p }
 {
     let s = doubled(p);
-    let x = s.x;
     let whole = s.j * 16777216;
-    if x == 1.0 {
+    if s.x == 1.0 {
         return whole;
     }
-    let under = log_units(x) + 2;
-    if under < whole { whole - under } else { 0 }
+    whole.saturating_sub(log_units(s.x) + 2)
 }
 
 // m units as an `f64`: exactly m / 2 ^ 24, and -0.0 for 0.
@@ -67,20 +66,17 @@ fn bits_of(m: u32) -> f64
     if m == 0 {
         return -0.0;
     }
-    (m as f64) * 0.000000059604644775390625
+    f64::from(m) * 0.000000059604644775390625
 }
 
 // The min-entropy of p, or number 5 where p is no number from 1/256 to 1.
-pub fn min_entropy(p: f64) -> Value
-    ensures { result ≡ min_entropy_of p }
+#[tactic(auto, using(crate::proofs::Cases::least_is, crate::proofs::Cases::one_is), unfolding(crate::specs::MinEntropy::min_entropy_of, crate::specs::Entropy::entropy_of))]
+pub fn min_entropy(p: f64) -> Result<f64, Refusal>
+    ensures { value_of result ≡ min_entropy_of p }
 {
-    if p >= 0.00390625 {
-        if p <= 1.0 {
-            return Value {
-                number: DONE,
-                value: bits_of(entropy_units(p)),
-            };
-        }
+    if 0.00390625 <= p && p <= 1.0 {
+        Ok(bits_of(entropy_units(p)))
+    } else {
+        Err(Refusal::OutOfRange)
     }
-    answer::refused_value(OUT_OF_RANGE)
 }

@@ -33,7 +33,7 @@ pub fn multi_mcw(symbols: &[u8], bits_per_symbol: u8) -> Answer
     let source = Source::new(symbols, bits_per_symbol);
     let n = source.len();
     let r = mcw_bits(source);
-    rate(r, (n - FIRST) as u64, 2)
+    rate(r, (n - FIRST) as u64, 2).into()
 }
 
 // The number by which the literal track is refused, or 0.
@@ -75,5 +75,5 @@ pub fn multi_mcw_literal(symbols: &[u8], out: &mut [u8]) -> Answer
     let found = dense_alphabet(symbols, out);
     let alphabet = Alphabet::from(found);
     let r = mcw_translated(&out[..n], alphabet.size);
-    rate(r, (n - FIRST) as u64, alphabet.size)
+    rate(r, (n - FIRST) as u64, alphabet.size).into()
 }

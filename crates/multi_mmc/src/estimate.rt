@@ -23,7 +23,7 @@ pub fn bits_estimate(symbols: &[u8], width: u32, n: usize, counters: &mut [u32])
     ensures counters_after { counters.new ≡ BitSpace.final levels cap (bits_of symbols.now width n) counters.old }
 {
     let outcome = mmc_bits(symbols, width, n, counters);
-    rate(outcome, (n - FIRST_PLACE) as u64, 2)
+    rate(outcome, (n - FIRST_PLACE) as u64, 2).into()
 }
 
 // Over `samples`, of which k are distinct.
@@ -34,5 +34,5 @@ pub fn store_estimate(samples: &[u8], k: u64, space: &mut [u32]) -> Answer
 {
     let outcome = mmc_symbols(samples, space);
     let n = samples.len() - FIRST_PLACE;
-    rate(outcome, n as u64, k)
+    rate(outcome, n as u64, k).into()
 }

@@ -10,19 +10,12 @@ ghost use Rattle.std.specs.Float.Ieee.{of_bits, to_bits};
 pub fn bits_of(x: f64) -> u64
     ensures { result ≡ to_bits binary64 x }
 {
-    if x != x {
-        return 0x7ff8_0000_0000_0000;
-    }
-    f64::to_bits(x)
+    std::num::f64_to_bits_with_nan(x)
 }
 
 // The double of a pattern.
-#[tactic(auto, using(crate::proofs::Nans::nan_read, crate::proofs::Nans::no_nan_read))]
 pub fn double_of(bits: u64) -> f64
     ensures { result ≡ of_bits binary64 bits }
 {
-    if 0x7ff0_0000_0000_0000 < bits % 0x8000_0000_0000_0000 {
-        return 0.0 / 0.0;
-    }
-    f64::from_bits(bits)
+    std::num::f64_from_bits_with_nan(bits)
 }

@@ -38,7 +38,7 @@ use Rattle.prediction.specs.Estimate.{p_global, upper_bound, prime_of, p_global_
 use Rattle.bisect.proofs.FewRounds.{local_rounds_few}
 use Rattle.bisect.proofs.LocalRange.{Inside, local_inside}
 use Rattle.prediction.proofs.Reaching.{z_nonneg}
-use Rattle.counts.proofs.Refusals.{Possible}
+use Rattle.counts.specs.Inner.Possible.{Possible}
 use Rattle.counts.proofs.Whole.{limit_small}
 
 one_fits : T (fits binary64 one)

@@ -1,2 +1,3 @@
 pub mod EstimateRanges
+pub mod Estimating
 pub mod Reaching

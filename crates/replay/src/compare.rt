@@ -94,7 +94,7 @@ fn power(mut words: &[u8]) -> Option<bool> {
 fn min_entropy(mut words: &[u8]) -> Option<bool> {
     let ours = entropy::min_entropy(double(&mut words)?);
     let theirs = double(&mut words)?;
-    Some(ours.number == DONE && within(ours.value, theirs, 1e-6))
+    Some(ours.is_ok_and(|ours| within(ours, theirs, 1e-6)))
 }
 
 fn calc_p_local(mut words: &[u8]) -> Option<bool> {
@@ -102,7 +102,7 @@ fn calc_p_local(mut words: &[u8]) -> Option<bool> {
     let n = word(&mut words)?;
     let ours = bisect::calc_p_local(run, n, double(&mut words)?);
     let theirs = double(&mut words)?;
-    Some(ours.number == DONE && within(ours.value, theirs, 1e-6))
+    Some(ours.is_ok_and(|ours| within(ours.value, theirs, 1e-6)))
 }
 
 fn same_answer(ours: Answer, mut words: &[u8], checks: u8) -> Option<bool> {
@@ -115,7 +115,7 @@ fn prediction_estimate(mut words: &[u8], checks: u8) -> Option<bool> {
     let run = word(&mut words)?;
     let k = word(&mut words)?;
     let ours = prediction::estimate::prediction_estimate(c, n, run, k);
-    same_answer(ours, words, checks)
+    same_answer(ours.into(), words, checks)
 }
 
 fn multi_mcw(capture: &[u8], case: &Case) -> Option<bool> {

@@ -18,7 +18,8 @@ use Rattle.answer.specs.declared.Answer.{Answer}
 use Rattle.answer.specs.declared.Estimate.{Estimate}
 use Rattle.bisect.proofs.LocalRange.{Inside}
 use Rattle.bisect.specs.Bisection.{round_limit}
-use Rattle.counts.proofs.Refusals.{Possible, counts_can_be}
+use Rattle.counts.proofs.Refusals.{counts_can_be}
+use Rattle.counts.specs.Inner.Possible.{Possible}
 use Rattle.counts.specs.Counts.{impossible_counts}
 use Rattle.prediction.proofs.EstimateRanges.{
   entropy_fits,

@@ -5,18 +5,18 @@ use Rattle.bisect.specs.Bisection.{round_limit}
 use Rattle.bisect.proofs.Rounds.{begun, stopped, spent, goes_on}
 use Rattle.bisect.proofs.solve.Goals as goal
 
-pub loop-rounds-init : goal.loop-rounds-init
-loop-rounds-init c = (omega arith, begun c.open-b.ensures)
+pub loop-past-init : goal.loop-past-init
+loop-past-init c = begun c.open-b.ensures
 
-pub returns-in-Stop : goal.returns-in-Stop
-returns-in-Stop c =
-    let l = c.loop-rounds in
-    stopped round_limit l.rounds l.invariant.1 c.loop-rounds-test.true (sym c.one_round-turned.ensures ∙ c.in-Stop.is)
+pub returns-in-Break : goal.returns-in-Break
+returns-in-Break c =
+    let l = c.loop-past in
+    stopped round_limit l.past l.invariant c.loop-past-test.true (sym c.round.ensures ∙ c.in-Break.is)
 
-pub loop-rounds-preserved : goal.loop-rounds-preserved
-loop-rounds-preserved c =
-    let l = c.loop-rounds in
-    (omega arith, goes_on round_limit l.rounds l.invariant.1 c.loop-rounds-test.true (sym c.one_round-turned.ensures ∙ c.in-On.is))
+pub loop-past-preserved : goal.loop-past-preserved
+loop-past-preserved c =
+    let l = c.loop-past in
+    goes_on round_limit l.past l.invariant c.loop-past-test.true (sym c.round.ensures ∙ c.in-Continue.is)
 
 pub returns : goal.returns
-returns c = spent round_limit c.loop-rounds.rounds c.loop-rounds.invariant.1 (omega arith)
+returns c = spent round_limit c.loop-past.past c.loop-past.invariant c.loop-past-test.false (omega arith)

@@ -16,4 +16,4 @@ returns-then-m-eq0 c = sym bits_of_none ∙ ap bits_of (sym c.if-m-eq0.true)
 
 pub returns : goal.returns
 unfolding of_bits
-returns c = bits_of_product c.args.m c.if-m-eq0.false (le_trans (omega arith) (lit≤ {m = 2 ^ 32} {n = 2 ^ 53} tt))
+returns c = rw c.from.ensures (bits_of_product c.args.m c.if-m-eq0.false (le_trans (omega arith) (lit≤ {m = 2 ^ 32} {n = 2 ^ 53} tt)))

@@ -3,7 +3,7 @@
 -- logarithm has 24 digits, so nothing overflows. Assumes nothing.
 use mathlib.Core.Path.{◌≡◌, sym, ap, ◌∙◌, subst}
 use mathlib.Core.Bool.{true, false}
-use Prim.Native.Nat.{ℕ, ◌+◌, ◌-◌, ◌*◌, ◌≤◌}
+use Prim.Native.Nat.{ℕ, ◌+◌, ◌-◌, ◌*◌}
 use native.Mathlib.Omega.{arith}
 use lib.Ieee.{Float, of_bits, eq}
 use Rattle.rounding.specs.Doubles.{one}
@@ -26,29 +26,16 @@ taken-off p x j l d g e =
 pub overflow_mul-whole : goal.overflow_mul-whole
 overflow_mul-whole c = let d = c.doubled-s in omega (arith, d.ensures.1, doublings_few 8 c.args.p)
 
-pub returns-then-x : goal.returns-then-x
+pub returns-then-s : goal.returns-then-s
 unfolding of_bits
-returns-then-x c = let d = c.doubled-s in at-power c.args.p d.result.x d.result.j d.ensures c.if-x.true
+returns-then-s c = let d = c.doubled-s in at-power c.args.p d.result.x d.result.j d.ensures c.if-s.true
 
-pub overflow_add-under : goal.overflow_add-under
-overflow_add-under c = let l = c.log_units-under in omega (arith, l.ensures, digits_below 24 c.doubled-s.result.x)
+pub overflow_add-log_units : goal.overflow_add-log_units
+overflow_add-log_units c = omega (arith, c.log_units.ensures, digits_below 24 c.doubled-s.result.x)
 
-pub returns-then-under-whole : goal.returns-then-under-whole
+pub returns : goal.returns
 unfolding of_bits
-returns-then-under-whole c =
+returns c =
     let d = c.doubled-s in
-    let l = c.log_units-under in
-    taken-off c.args.p d.result.x d.result.j l.result d.ensures l.ensures
-    c.if-x.false
-
-pub returns-else-under-whole : goal.returns-else-under-whole
-unfolding of_bits
-returns-else-under-whole c =
-    let d = c.doubled-s in
-    let l = c.log_units-under in
-    none (d.result.j * 16777216) (l.result + 2) c.if-under-whole.false
-    ∙ taken-off c.args.p d.result.x d.result.j l.result d.ensures l.ensures
-    c.if-x.false
-  where
-    none : (a b : ℕ) → a ≤ b → 0 ≡ a - b
-    none a b h = omega arith
+    let l = c.log_units in
+    c.saturating_sub.ensures ∙ taken-off c.args.p d.result.x d.result.j l.result d.ensures l.ensures c.if-s.false

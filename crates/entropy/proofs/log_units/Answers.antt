@@ -10,26 +10,26 @@ use Rattle.entropy.proofs.Rounds.{Squaring, squaring_first, squaring_high, squar
 use Rattle.entropy.proofs.log_units.Goals as goal
 use Rattle.entropy.proofs.log_units.Goals.{then-x, else-x}
 
-pub loop-i-init : goal.loop-i-init
-loop-i-init c = squaring_first c.args.start
+pub loop-init : goal.loop-init
+loop-init c = squaring_first c.args.start
 
 pub overflow_mul-bits : goal.overflow_mul-bits
-overflow_mul-bits c = let l = c.loop-i in omega (arith, squaring_room c.args.start l.x l.bits l.i l.invariant (omega arith))
+overflow_mul-bits c = let l = c.loop in omega (arith, squaring_room c.args.start l.x l.bits l.counter l.invariant (omega arith))
 
 pub overflow_add-bits : goal.overflow_add-bits
-overflow_add-bits c = let l = c.loop-i in omega (arith, squaring_room c.args.start l.x l.bits l.i l.invariant (omega arith))
+overflow_add-bits c = let l = c.loop in omega (arith, squaring_room c.args.start l.x l.bits l.counter l.invariant (omega arith))
 
-pub loop-i-preserved : goal.loop-i-preserved
+pub loop-preserved : goal.loop-preserved
 unfolding of_bits
-loop-i-preserved c =
+loop-preserved c =
     let s = c.args.start in
-    let l = c.loop-i in
-    let t : l.i < 24 = omega arith in
+    let l = c.loop in
+    let t : l.counter < 24 = omega arith in
     elim c.if-x.branch [
-      | then-x v ↦ at s c.if-x.x (mul binary64 (mul binary64 l.x l.x) half) c.if-x.bits (l.bits * 2 + 1) (l.i + 1) v.x-is v.bits-is
-          (squaring_high s l.x l.bits l.i l.invariant t v.if-x.true)
-      | else-x v ↦ at s c.if-x.x (mul binary64 l.x l.x) c.if-x.bits (l.bits * 2) (l.i + 1) v.x-is v.bits-is
-          (squaring_low s l.x l.bits l.i l.invariant t v.if-x.false)
+      | then-x v ↦ at s c.if-x.x (mul binary64 (mul binary64 l.x l.x) half) c.if-x.bits (l.bits * 2 + 1) (l.counter + 1) v.x-is v.bits-is
+          (squaring_high s l.x l.bits l.counter l.invariant t v.if-x.true)
+      | else-x v ↦ at s c.if-x.x (mul binary64 l.x l.x) c.if-x.bits (l.bits * 2) (l.counter + 1) v.x-is v.bits-is
+          (squaring_low s l.x l.bits l.counter l.invariant t v.if-x.false)
     ]
   where
     -- at whatever equals the new values
@@ -38,6 +38,6 @@ loop-i-preserved c =
 
 pub returns : goal.returns
 returns c =
-    let l = c.loop-i in
-    let e : l.i ≡ 24 = omega arith in
+    let l = c.loop in
+    let e : l.counter ≡ 24 = omega arith in
     subst (λ (n : ℕ). l.bits ≡ log_digits n c.args.start) e l.invariant.digits

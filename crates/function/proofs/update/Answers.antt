@@ -5,4 +5,4 @@ use Rattle.function.proofs.update.Goals as goal
 
 pub returns : goal.returns
 unfolding updated of_bits
-returns c = rw c.power.ensures
+returns c = rw (c.power.ensures, c.from.ensures)

@@ -27,7 +27,7 @@ overflow_sub-n c =
 pub returns : goal.returns
 returns c =
     let n = counted c.args.symbols.now c.args.bits_per_symbol c.len-n.ensures c.new-source.ensures in
-    c.rate.ensures
+    c.into.ensures ∙ c.rate.ensures
     ∙ rw n
     (bits_ran c.args.symbols.now c.args.bits_per_symbol c.bits_refusal-number.ensures c.if-number-ne-DONE.false
     (c.mcw_bits-r.ensures ∙ ap outcome_of (c.new-source.ensures ∙ whole _ _)))

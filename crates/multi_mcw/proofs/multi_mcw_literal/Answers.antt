@@ -62,4 +62,4 @@ returns c =
     let T = translation in
     let l = literal_ran c.args.symbols.now c.args.out.now c.literal_refusal-number.ensures done (size_is T) (c.mcw_translated-r.ensures ∙ ap outcome_of (taken_is T))
     (written_is T) in
-    (c.rate.ensures ∙ l.0, l.1)
+    (c.into.ensures ∙ c.rate.ensures ∙ l.0, l.1)

@@ -5,8 +5,8 @@ use Rattle.prediction.specs.Estimate.{floor_from}
 use Rattle.rounding.proofs.Exact.{whole_fits}
 use Rattle.prediction.proofs.estimate.floor_of.Goals as goal
 
-pub int_to_float-k : goal.int_to_float-k
-int_to_float-k c = whole_fits _ (omega arith)
+pub int_to_float-counted : goal.int_to_float-counted
+int_to_float-counted c = whole_fits _ (omega arith)
 
 pub returns : goal.returns
 unfolding floor_from of_bits
