@@ -4,6 +4,8 @@ use mathlib.Core.Path.{◌≡◌, refl}
 use mathlib.Core.Bool.{Bool, true, false, cond}
 use native.Mathlib.Omega.{arith}
 use lib.Dec.{ltb}
+use mir.Val.{bool_byte}
+use Rattle.std.specs.Prelude.{nat_lt}
 use borrow.Author.Tests.{lt-ltb, le-ltb, eq-eqb, ne_eqb}
 use Rattle.race.specs.Race.{silent, says}
 use Rattle.capture.specs.Bits.{one}
@@ -15,13 +17,14 @@ one_le true = omega arith
 one_le false = omega arith
 
 module _ (z o : ℕ) where
-  pub lean_zero : o < z → 1 ≡ lean z o
+  -- as the code makes it
+  pub lean_byte : bool_byte (nat_lt o z) ≡ lean z o
   unfolding lean
-  lean_zero l = rw (lt-ltb o z l) refl
-
-  pub lean_one : z ≤ o → 0 ≡ lean z o
-  unfolding lean
-  lean_one l = rw (le-ltb o z l) refl
+  lean_byte = digit (ltb o z)
+    where
+      digit : (t : Bool) → bool_byte t ≡ one t
+      digit true = refl
+      digit false = refl
 
   pub lean_le : lean z o ≤ 1
   unfolding lean

@@ -24,6 +24,10 @@ module _ {b : List ℕ} {i recent bit stored : ℕ} {counters : List ℕ} (h : B
   pub enters : (top : ℕ) → top ≤ i → Entered b i recent bit top counters
   enters top l = record { stands = h.stands; taking = l; counted = h.counted }
 
+  -- by other names
+  pub enters_here : {i' bit' : ℕ} → i' ≡ i → bit' ≡ bit → (top : ℕ) → top ≤ i → Entered b i' recent bit' top counters
+  enters_here p q top l = rw (p, q) (enters top l)
+
   pub bit_low : bit < 2
   bit_low = omega (arith, h.stands.bit_is, h.stands.bits i)
 

@@ -1,9 +1,9 @@
 -- What the steps of the code on a level's part ask and give at a place of a history. Assumes nothing.
-use Prim.Native.Nat.{ℕ, suc, ◌+◌, ◌*◌, ◌-◌, ◌/◌, ◌^◌, ◌≤◌, ◌<◌, min}
+use Prim.Native.Nat.{ℕ, suc, ◌+◌, ◌*◌, ◌-◌, ◌%◌, ◌^◌, ◌≤◌, ◌<◌, min}
 use mathlib.Core.Path.{◌≡◌, refl, sym, ap, ◌∙◌}
 use mathlib.Core.List.{List}
 use native.Mathlib.Omega.{arith}
-use native.Mathlib.Nat.{mul-le-mul_right}
+use native.Mathlib.Nat.{add_comm, mul-le-mul_right, mod-eq_of_lt}
 use lib.ListN.{get_or, set, length, take, drop}
 use lib.Pow.{pow_pos, pow_mono}
 use lib.Bits.{bit_and, and_le_r}
@@ -11,12 +11,13 @@ use borrow.Rule.Slice.PartMut.{put_mid}
 use Rattle.mmc_bits.specs.Levels.{levels, cap}
 use Rattle.mmc_bits.specs.Counters.{context, pair, counter}
 use Rattle.mmc_bits.specs.Space.{part, size}
-use Rattle.mmc_bits.specs.Inner.Steps.{Bits, counter_end, lean, leaning, bumped, kept, Entered, Passed, Last, Ended, distinct}
+use Rattle.mmc_bits.specs.Inner.Steps.{Bits, counter_end, lean, leaning, leanings, bumped, kept, Entered, Passed, Last, Ended, distinct}
 use Rattle.mmc_bits.proofs.Counting.{counter_le}
 use Rattle.mmc_bits.proofs.Room.{context_lt, pair_lt, room}
 use Rattle.mmc_bits.proofs.Contexts.{key}
+use Rattle.mmc_bits.proofs.Seeking.{shifted}
 use Rattle.mmc_bits.proofs.Parts.{length_part, get_d_part, part_step, part_last, kept_last, mixed_none, mixed_all, lent, back}
-use Rattle.mmc_bits.proofs.Masking.{leanings_none, leanings_more, leanings_lt}
+use Rattle.mmc_bits.proofs.Masking.{leaning_le, leanings_none, leanings_more, leanings_lt}
 
 pub size_is : size levels ≡ 262140
 unfolding size
@@ -59,13 +60,23 @@ module _ (cap L : ℕ) (b : List ℕ) (i : ℕ) (xs : List ℕ) (at bit : ℕ) (
 pub width : (l w : ℕ) → l < levels → w ≡ 2 ^ suc l → (2 ≤ w) × (w ≤ 65536)
 width l w h e = let m : 2 ^ suc l ≤ 65536 = pow_mono {i = suc l} {j = levels} h in omega (arith, pow_pos l)
 
--- half of it is the weight of the level in a mask
-pub half_width : (l w : ℕ) → w ≡ 2 ^ suc l → w / 2 ≡ 2 ^ l
-half_width l w e = omega arith
+-- as the code makes it
+pub doubled : (l : ℕ) → l < levels → 2 * 2 ^ l % 18446744073709551616 ≡ 2 ^ suc l
+doubled l h =
+    let e : suc l - 1 ≡ l = omega arith in
+    rw e at (shifted (suc l) (omega arith) h)
 
--- a digit of that weight
-pub weight_fits : (v w : ℕ) → v ≤ 1 → w ≤ 65536 → v * (w / 2) ≤ 32768
-weight_fits v w h l = omega (arith, mul-le-mul_right (w / 2) h)
+-- the digit of level l + 1 in a mask, as the code makes it
+pub digit_is : (v l : ℕ) → v ≤ 1 → l < levels → v * 2 ^ l % 4294967296 ≡ v * 2 ^ l
+digit_is v l h k =
+    let m : 2 ^ l ≤ 65536 = pow_mono {i = l} {j = levels} (omega arith) in
+    mod-eq_of_lt (omega (arith, mul-le-mul_right (2 ^ l) h))
+
+-- levels below the last have digits below 2 to the power 15
+pub digits_fit : (v l top z : ℕ) → v ≤ 1 → l < top → top < levels → z < 65536 → z + v * 2 ^ l % 4294967296 < 4294967296
+digits_fit v l top z h k few f =
+    let m : 2 ^ l ≤ 65536 = pow_mono {i = l} {j = levels} (omega arith) in
+    omega (arith, digit_is v l h (omega arith), mul-le-mul_right (2 ^ l) h)
 
 -- and where the counters of a context stand among them
 pub mask_fits : (recent w : ℕ) → (2 ≤ w) × (w ≤ 65536) → bit_and recent (w - 1) * 2 < 18446744073709551616
@@ -112,10 +123,11 @@ module _ {b : List ℕ} {i recent bit top : ℕ} {counters₀ : List ℕ} (h : E
           gt ∙ stored cap (suc l) b i (lent_part w counters) (bit_and recent (w - 1) * 2) bit in_part at_context h.stands.bit_is h.stands.bits
           (omega (arith, h.taking)) levels room (omega arith)
 
-      pub level_passes : Passed b i (suc l) counters₀ (put_back w counters t) (v * (w / 2) + zeros)
+      pub level_passes : Passed b i (suc l) counters₀ (put_back w counters t) (zeros + v * 2 ^ l % 4294967296)
       level_passes =
+          let one : v ≤ 1 = rw leans_here (leaning_le cap (suc l) b i) in
           record {
-            zeros_are = rw (leans_here, half_width l w e, p.zeros_are) (sym (leanings_more cap b i l));
+            zeros_are = rw (digit_is v l one (omega arith), leans_here, p.zeros_are) (add_comm (leanings cap l b i) _ ∙ sym (leanings_more cap b i l));
             counted = back cap levels l b i (drop (size levels) counters₀) counters w (omega arith) e p.counted t counted_here;
           }
 

@@ -8,3 +8,9 @@ mod step;
 
 // How often a pair occurred.
 pub type Counter = u32;
+
+// How many counters sixteen levels have.
+pub const SIZE: usize = 262_140;
+
+// The counters of the levels, the shortest level's first. A context's two stand side by side: how often 0 followed it, and how often 1.
+pub type Counters = [Counter; SIZE];

@@ -9,10 +9,11 @@ use crate::Counter;
 pub const CAP: usize = 100_000;
 
 // 1 where the zeros are more than the ones: there a level that speaks says 0, and else 1.
+#[tactic(auto, using(crate::proofs::Cases::lean_byte))]
 fn look(zeros: Counter, ones: Counter) -> u32
     ensures { result ≡ lean zeros ones }
 {
-    if ones < zeros { 1 } else { 0 }
+    (ones < zeros) as u32
 }
 
 // Looks at the two counters of a context, which stand at `at`, and counts the bit.

@@ -1,68 +1,43 @@
 // MultiMMC on bits (SP 800-90B 6.3.9), the whole run: the sixteen levels race, place by place.
 #![tactic(auto)]
 
-ghost use Rattle.std.specs.Prelude.{◌≡◌, ◌++◌, length, drop, replicate, ◌≤◌};
-ghost use Rattle.capture.specs.Inner.Spots.{Source};
-ghost use Rattle.capture.specs.Bits.{bits_of};
+ghost use Rattle.std.specs.Prelude.{◌≡◌, List, ℕ, length, replicate};
 ghost use Rattle.mmc_bits.specs.Levels.{levels, cap};
 ghost use Rattle.mmc_bits.specs.Mmc.{outcome_of};
-ghost use Rattle.mmc_bits.specs.Space.{size, final};
+ghost use Rattle.mmc_bits.specs.Space.{size, span};
 
-use capture::bits::{bit_at, first_spot, next_spot};
-use mmc_bits::Counter;
-use mmc_bits::clear::clear;
+use capture::source::Source;
+use mmc_bits::Counters;
 use mmc_bits::place::place;
 use race::Outcome;
-use verdicts::place::{ended, start, step};
-
-// How many counters sixteen levels have.
-const SIZE: usize = 262_140;
-
-// The mask of sixteen levels.
-const ALL: u32 = 65_535;
-
-// No counts yet: the first `count` numbers are cleared.
-fn clear_levels(counters: &mut [Counter], count: usize)
-    requires { (count ≡ size levels) × (size levels ≤ length counters.old) }
-    ensures { counters.new ≡ replicate (size levels) 0 ++ drop (size levels) counters.old }
-{
-    clear(&mut counters[..count]);
-}
+use verdicts::place::Race;
 
 // All places, one after the other, from cleared counters on.
-fn run(symbols: &[u8], width: u32, n: usize, counters: &mut [Counter]) -> Outcome
-    requires source { Source symbols.now width n }
-    requires counters_value { counters.old ≡ replicate (size levels) 0 ++ drop (size levels) counters.old }
-    ensures value { result ≡ outcome_of levels cap (bits_of symbols.now width n) }
-    ensures counters_after { counters.new ≡ final levels cap (bits_of symbols.now width n) counters.old }
+fn run(source: Source, counters: &mut Counters) -> Outcome
+    ghost bits: { List ℕ }
+    requires source { source ≡ bits }
+    requires cleared { counters.old ≡ replicate (size levels) 0 }
+    ensures value { result ≡ outcome_of levels cap bits }
+    ensures counters_after { counters.new ≡ span cap 1 levels bits (length bits) }
 {
-    let mut up = [0u64; 16];
-    let mut race = start();
-    let mut spot = first_spot(width);
+    let mut race = Race::new();
     let mut recent: usize = 0;
     let mut stored: usize = 0;
-    let mut i: usize = 0;
-    while i < n {
-        let x = bit_at(symbols, spot);
-        let passed = place(counters, i, recent, x as usize, stored);
-        let masks = passed.masks;
-        race = step(race, &mut up, masks, ALL);
+    for (i, bit) in source.bits().enumerate() {
+        let bit = bit as usize;
+        let passed = place(counters, i, recent, bit, stored);
+        race.step(passed.masks);
         stored = passed.stored;
-        recent = (recent * 2 + x as usize) % 65536;
-        spot = next_spot(width, spot);
-        i += 1;
+        recent = (recent * 2 + bit) % 65536;
     }
-    ended(race)
+    race.outcome()
 }
 
-// MultiMMC over the first `n` bits of `symbols`, `width` to a symbol. Space need not be cleared first; the counters over all places are
-// left in the first 262,140 numbers.
-pub fn mmc_bits(symbols: &[u8], width: u32, n: usize, counters: &mut [Counter]) -> Outcome
-    requires source { Source symbols.now width n }
-    requires levels_in_bounds { size levels ≤ length counters.old }
-    ensures value { result ≡ outcome_of levels cap (bits_of symbols.now width n) }
-    ensures counters_after { counters.new ≡ final levels cap (bits_of symbols.now width n) counters.old }
+// MultiMMC over the bits of `source`. Counters need not be cleared first; those over all places are left.
+pub fn mmc_bits(source: Source, counters: &mut Counters) -> Outcome
+    ensures value { result ≡ outcome_of levels cap source.entry }
+    ensures counters_after { counters.new ≡ span cap 1 levels source.entry (length source.entry) }
 {
-    clear_levels(counters, SIZE);
-    run(symbols, width, n, counters)
+    counters.fill(0);
+    run(source, counters)
 }

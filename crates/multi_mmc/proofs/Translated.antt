@@ -1,7 +1,7 @@
 -- The translated capture as the estimators are handed it: the first numbers of the output. Assumes nothing.
 use mathlib.Core.Path.{◌≡◌, ap, sym, ◌∙◌}
 use mathlib.Core.List.{List}
-use Prim.Native.Nat.{ℕ, ◌≤◌}
+use Prim.Native.Nat.{ℕ, ◌*◌, ◌≤◌}
 use native.Mathlib.Omega.{arith}
 use borrow.Author.Tests.{le-ltb}
 use lib.ListN.{length, take, length-map}
@@ -9,7 +9,7 @@ use lib.Seq.{take_at}
 use Rattle.alphabet.specs.Alphabet.{alphabet_number, alphabet_of, distinct, output_of, rising, sorted, written}
 use Rattle.alphabet.specs.declared.Alphabet.{Alphabet}
 use Rattle.alphabet.proofs.Alphabets.{Bytes, sorted_below}
-use Rattle.capture.specs.Inner.Spots.{Source}
+use Rattle.capture.specs.Inner.Sources.{IsSource, all_bits}
 use Rattle.capture.specs.Bits.{bits_of}
 use Rattle.capture.specs.Limit.{symbol_limit}
 use Rattle.capture.proofs.Bitstring.{bits_narrow}
@@ -41,17 +41,21 @@ module _ {s out : List ℕ} {a : Alphabet} {out₁ : List ℕ} (T : Translation 
   taken_length = sym (ap length taken_is ∙ sorted_length s)
 
   -- of at most two values the numbers are bits
-  pub source_is : Source (take (length s) out₁) 1 (length s)
+  pub source_is : IsSource (take (length s) out₁) 1
   source_is =
       record {
         short = omega (arith, taken_length, T.fits);
         some = omega arith;
         narrow = omega arith;
-        within = omega (arith, taken_length);
       }
 
-  pub bits_are : Bytes s → distinct s ≤ 2 → bits_of (take (length s) out₁) 1 (length s) ≡ sorted s
+  pub bits_are : Bytes s → distinct s ≤ 2 → all_bits (take (length s) out₁) 1 ≡ sorted s
+  unfolding all_bits
   bits_are bytes few =
-      ap (λ (z : List ℕ). bits_of z 1 (length s)) taken_is
-      ∙ ap (bits_of (sorted s) 1) (sym (sorted_length s))
+      let one : length (sorted s) * 1 ≡ length (sorted s) = omega arith in
+      ap (λ (z : List ℕ). bits_of z 1 (length z * 1)) taken_is
+      ∙ ap (bits_of (sorted s) 1) one
       ∙ bits_narrow (sorted s) (λ i l. omega (arith, sorted_below s bytes i (omega (arith, sorted_length s))))
+
+  pub bits_many : Bytes s → distinct s ≤ 2 → length (all_bits (take (length s) out₁) 1) ≡ length s
+  bits_many bytes few = ap length (bits_are bytes few) ∙ sorted_length s

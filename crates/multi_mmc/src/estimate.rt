@@ -1,7 +1,5 @@
 // The answer over a track's samples: the race, and what it comes to.
 ghost use Rattle.std.specs.Prelude.{◌≡◌, ◌≤◌, length};
-ghost use Rattle.capture.specs.Inner.Spots.{Source};
-ghost use Rattle.capture.specs.Bits.{bits_of};
 ghost use Rattle.capture.specs.Limit.{symbol_limit};
 ghost use Rattle.mmc_bits.specs.Levels.{cap, levels};
 ghost use Rattle.mmc_bits.specs.Space as BitSpace;
@@ -9,6 +7,7 @@ ghost use Rattle.mmc_store.specs.Space as StoreSpace;
 ghost use Rattle.multi_mmc.specs.Tracks.{bits_estimate, least_samples, store_estimate};
 
 use answer::Answer;
+use capture::source::Source;
 use mmc_run::mmc_bits;
 use mmc_symbols::mmc_symbols;
 use rating::rate;
@@ -16,14 +15,15 @@ use rating::rate;
 // Predictions start at this place.
 const FIRST_PLACE: usize = 2;
 
-// Over the first n bits of `symbols`, `width` to a symbol.
-pub fn bits_estimate(symbols: &[u8], width: u32, n: usize, counters: &mut [u32]) -> Answer
-    requires { (least_samples ≤ n) × Source symbols.now width n × (BitSpace.size levels ≤ length counters.old) }
-    ensures value { result ≡ bits_estimate (bits_of symbols.now width n) }
-    ensures counters_after { counters.new ≡ BitSpace.final levels cap (bits_of symbols.now width n) counters.old }
+// Over the bits of a source.
+pub fn bits_estimate(source: Source, counters: &mut [u32]) -> Answer
+    requires { (least_samples ≤ length source) × (BitSpace.size levels ≤ length counters.old) }
+    ensures value { result ≡ bits_estimate source.entry }
+    ensures counters_after { counters.new ≡ BitSpace.final levels cap source.entry counters.old }
 {
-    let outcome = mmc_bits(symbols, width, n, counters);
-    rate(outcome, (n - FIRST_PLACE) as u64, 2).into()
+    let n = source.len() - FIRST_PLACE;
+    let outcome = mmc_bits(source, counters.first_chunk_mut().unwrap());
+    rate(outcome, n as u64, 2).into()
 }
 
 // Over `samples`, of which k are distinct.

@@ -10,6 +10,7 @@ use crate::refusal::literal_refusal;
 use alphabet::Alphabet;
 use answer::{Answer, DONE, refused_as};
 use capture::refusal::{bits_refusal, refused_on};
+use capture::source::Source;
 use rising::value_sorted_alphabet;
 
 mod estimate;
@@ -34,8 +35,7 @@ pub fn multi_mmc(symbols: &[u8], bits_per_symbol: u8, counters: &mut [u32]) -> A
     if number != DONE {
         return refused_on(symbols, number);
     }
-    let n = symbols.len() * (bits_per_symbol as usize);
-    bits_estimate(symbols, bits_per_symbol as u32, n, counters)
+    bits_estimate(Source::new(symbols, bits_per_symbol as u32), counters)
 }
 
 // The literal track, which has no width: a sample is a symbol. The symbols are translated into `out`; the two numbers of at
@@ -55,7 +55,7 @@ pub fn multi_mmc_literal(symbols: &[u8], out: &mut [u8], space: &mut [u32]) -> A
     let samples = &out[..n];
     let binary = alphabet.size <= 2;
     if binary {
-        return bits_estimate(samples, 1, n, space);
+        return bits_estimate(Source::new(samples, 1), space);
     }
     store_estimate(samples, alphabet.size, space)
 }

@@ -4,6 +4,7 @@ use Prim.Native.Nat.{ℕ, ◌+◌, ◌-◌, ◌*◌, ◌/◌, ◌^◌, ◌≤◌
 use native.Mathlib.Omega.{arith}
 use lib.Bits.{bit_xor, xor_zero_r}
 use Rattle.verdicts.specs.Inner.Planes.{Chosen}
+use Rattle.verdicts.specs.declared.planes.Choice.{Choice}
 use Rattle.verdicts.specs.declared.planes.Claimed.{Claimed}
 use Rattle.race.proofs.Cases.{same?}
 
@@ -54,3 +55,7 @@ chosen k rights all l =
       others = λ z. let e : some_one k.first ≡ 0 = some_zero k.first z in
           (claim_near k.first k.near l z, rw (e, times_zero all 0 refl) (xor_zero_r rights), rw (e, times_one all 1 refl), e);
     }
+
+-- the largest score gains at most 1
+pub chosen_le : {k : Claimed} {rights all : ℕ} {v : Choice} → Chosen k rights all v → v.gained ≤ 1
+chosen_le {k} E = same? k.first 0 (λ z. omega (arith, (E.others z).3)) (λ z. omega (arith, (E.leading z).3))

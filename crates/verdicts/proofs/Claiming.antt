@@ -1,13 +1,16 @@
 -- Who has a claim to win: the right ones whose higher digits are all 0. Assumes nothing.
-use mathlib.Core.Path.{◌≡◌, ◌∙◌}
+use mathlib.Core.Path.{◌≡◌, refl, ◌∙◌}
+use mathlib.Core.List.{List, [], ◌∷◌}
 use mathlib.Core.Logic.{◌⊎◌, inl, inr, ⊎_elim}
-use Prim.Native.Nat.{ℕ, ◌+◌, ◌*◌, ◌^◌, ◌≤◌, ◌<◌, min, max}
+use Prim.Native.Nat.{ℕ, suc, ◌+◌, ◌*◌, ◌^◌, ◌≤◌, ◌<◌, min, max}
 use native.Mathlib.Omega.{arith}
 use native.Mathlib.Nat.{lt_of_le_of_lt}
+use lib.ListN.{length, get_or, drop}
+use lib.Seq.{drop-cons}
+use Rattle.std.proofs.lemmas.List.{drop_all}
 use lib.Bits.{bit_and, bit_or, bit_xor, xor_lt, and_le_l}
 use Rattle.verdicts.specs.Inner.Told.{digit}
-use Rattle.verdicts.specs.Inner.Planes.{Claims}
-use Rattle.verdicts.specs.declared.Low.{Low}
+use Rattle.verdicts.specs.Inner.Planes.{low_at, Claims}
 use Rattle.verdicts.proofs.Digits.{digit_le, digit_cases, digit_and, digit_or, digit_xor, apart}
 
 or_max : (m a b : ℕ) → m ≡ max a b → (m ≤ a + b) × (a ≤ m) × (b ≤ m)
@@ -35,70 +38,63 @@ cuts a b j =
     cut (digit a j) (digit b j) (digit (bit_and a b) j) (digit (without a b) j) (digit_le a j) (digit_and a b j)
     (left_over (digit a j) (digit b j) (digit (bit_and a b) j) (digit (without a b) j) (digit_and a b j) (digit_xor a (bit_and a b) j))
 
-module _ (q : Low) (far rights : ℕ) where
-  abbrev h2 : ℕ
-  h2 = bit_or q.p1 q.p2
+-- the digits of the planes and of n, together
+unfoldable pub ors : ℕ → List ℕ → ℕ
+ors n [] = n
+ors n (p ∷ ps) = ors (bit_or n p) ps
 
-  abbrev h3 : ℕ
-  h3 = bit_or h2 q.p3
+pub ors_step : (n : ℕ) (q : List ℕ) (k : ℕ) → k < length q → ors n (drop k q) ≡ ors (bit_or n (get_or q k 0)) (drop (suc k) q)
+unfolding ors
+ors_step n q k l = rw (drop-cons q k 0 l) refl
 
-  abbrev h4 : ℕ
-  h4 = bit_or h3 q.p4
+pub ors_end : (n : ℕ) (q : List ℕ) (k : ℕ) → length q ≤ k → ors n (drop k q) ≡ n
+unfolding ors
+ors_end n q k l = let past : drop k q ≡ [] = drop_all k q l in rw past refl
 
-  abbrev h5 : ℕ
-  h5 = bit_or h4 q.p5
+-- a digit there is 1 just where one of them has a 1
+ors_le : (j : ℕ) (ps : List ℕ) (n : ℕ) → digit (ors n ps) j ≤ low_at ps j + digit n j
+unfolding ors low_at
+ors_le j [] n = omega arith
+ors_le j (p ∷ ps) n = omega (arith, ors_le j ps (bit_or n p), (either n p j).0)
 
+⊎_of : (d : ℕ) → d ≤ 1 → 0 + d ≡ 0 ⊎ 1 ≤ d
+⊎_of d l = digit_cases d l (λ z. inl (omega arith)) (λ o. inr (omega arith))
+
+ors_ge : (j : ℕ) (ps : List ℕ) (n : ℕ) → (digit n j ≤ digit (ors n ps) j) × (low_at ps j + digit n j ≡ 0 ⊎ 1 ≤ digit (ors n ps) j)
+unfolding ors low_at
+ors_ge j [] n = (omega arith, ⊎_of (digit n j) (digit_le n j))
+ors_ge j (p ∷ ps) n =
+    let E = either n p j in
+    let R = ors_ge j ps (bit_or n p) in
+    (omega (arith, E, R.0), ⊎_elim (λ z. digit_cases (digit p j) (digit_le p j) (λ o. digit_cases (digit n j) (digit_le n j) (λ i. inl (omega arith)) (λ i. inr (omega (arith, E, R.0)))) (λ o. inr (omega (arith, E, R.0)))) (λ o. inr o) R.1)
+
+module _ (p : ℕ) (ps : List ℕ) (far rights : ℕ) where
   abbrev high : ℕ
-  high = bit_or h5 far
+  high = ors far ps
 
   abbrev near : ℕ
   near = without rights high
 
   abbrev first : ℕ
-  first = without near q.p0
+  first = without near p
 
-  record Highs (j : ℕ) : Type 0 where
-    above : digit high j ≤ digit q.p1 j + digit q.p2 j + digit q.p3 j + digit q.p4 j + digit q.p5 j + digit far j
-    b1 : digit q.p1 j ≤ digit high j
-    b2 : digit q.p2 j ≤ digit high j
-    b3 : digit q.p3 j ≤ digit high j
-    b4 : digit q.p4 j ≤ digit high j
-    b5 : digit q.p5 j ≤ digit high j
-    b6 : digit far j ≤ digit high j
+  none_high : (a l f h k : ℕ) → h ≤ l + f → f ≤ k → a + 2 * l + k ≤ 1 → a + 2 * l + k ≡ 0 ⊎ 2 * f ≤ k → h ≡ 0
+  none_high a l f h k b e g d = ⊎_elim (λ u. omega arith) (λ u. omega arith) d
 
-  highs : (j : ℕ) → Highs j
-  highs j =
-      let e2 = either q.p1 q.p2 j in
-      let e3 = either h2 q.p3 j in
-      let e4 = either h3 q.p4 j in
-      let e5 = either h4 q.p5 j in
-      let e6 = either h5 far j in
-      record {
-        above = omega arith;
-        b1 = omega arith;
-        b2 = omega arith;
-        b3 = omega arith;
-        b4 = omega arith;
-        b5 = omega arith;
-        b6 = omega arith;
-      }
+  some_high : (j : ℕ) → 0 < low_at ps j + digit far j → digit high j ≡ 1
+  some_high j e = ⊎_elim (λ z. absurd (omega arith)) (λ o. omega (arith, digit_le high j)) (ors_ge j ps far).1
 
-  none_high : (p0 p1 p2 p3 p4 p5 f h k : ℕ) → h ≤ p1 + p2 + p3 + p4 + p5 + f → f ≤ k
-      → p0 + 2 * p1 + 4 * p2 + 8 * p3 + 16 * p4 + 32 * p5 + k ≤ 1
-      → p0 + 2 * p1 + 4 * p2 + 8 * p3 + 16 * p4 + 32 * p5 + k ≡ 0 ⊎ 2 * f ≤ k → h ≡ 0
-  none_high p0 p1 p2 p3 p4 p5 f h k a b e d = ⊎_elim (λ u. omega arith) (λ u. omega arith) d
-
-  pub claimed : Claims q far rights (record { first = first; near = near })
+  pub claimed : Claims (p ∷ ps) far rights (record { first = first; near = near })
+  unfolding low_at
   claimed =
       record {
-        first_is = λ j e. (cuts near q.p0 j).0 (omega arith)
-            ∙ (cuts rights high j).0 (none_high (digit q.p0 j) _ _ _ _ _ (digit far j) _ (digit far j) (highs j).above (omega arith) (omega arith) (inl e));
-        first_not = λ j e. let H = highs j in
-            digit_cases (digit q.p0 j) (digit_le q.p0 j)
-            (λ z. omega (arith, (cuts near q.p0 j).2, (cuts rights high j).1 (omega (arith, digit_le high j))))
-            (λ z. (cuts near q.p0 j).1 z);
+        first_is = λ j e. (cuts near p j).0 (omega arith)
+            ∙ (cuts rights high j).0 (none_high (digit p j) (low_at ps j) (digit far j) _ (digit far j) (ors_le j ps far) (omega arith) (omega arith) (inl e));
+        first_not = λ j e. digit_cases (digit p j) (digit_le p j)
+            (λ z. omega (arith, (cuts near p j).2, (cuts rights high j).1 (some_high j (omega arith))))
+            (λ z. (cuts near p j).1 z);
         near_is = λ j e. (cuts rights high j).0
-            (none_high (digit q.p0 j) _ _ _ _ _ (digit far j) _ (64 * digit far j) (highs j).above (omega arith) e (inr (omega arith)));
-        near_not = λ j e. let H = highs j in (cuts rights high j).1 (omega (arith, digit_le high j, digit_le q.p0 j));
-        small = λ m l. (without_lt m near q.p0 (without_lt m rights high l), without_lt m rights high l);
+            (none_high (digit p j) (low_at ps j) (digit far j) _ (64 * digit far j) (ors_le j ps far) (omega arith) e (inr (omega arith)));
+        near_not = λ j e. (cuts rights high j).1 (some_high j (omega (arith, digit_le p j)));
+        small = λ m l. (without_lt m near p (without_lt m rights high l), without_lt m rights high l);
       }

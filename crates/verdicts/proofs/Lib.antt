@@ -2,6 +2,7 @@ pub mod Digits
 pub mod Finding
 pub mod Deficits
 pub mod Largest
+pub mod Lows
 pub mod Rippling
 pub mod Claiming
 pub mod Choosing
@@ -11,6 +12,4 @@ pub mod Shifting
 pub mod Passing
 pub mod Tallying
 pub mod Stepping
-pub mod Racing
-pub mod Ending
 pub mod Examples

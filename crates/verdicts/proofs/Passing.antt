@@ -18,11 +18,10 @@ use Rattle.verdicts.specs.Inner.Told.{digit}
 use Rattle.verdicts.specs.Inner.Deficits.{some_of, claims, gain, successor}
 use Rattle.verdicts.specs.Inner.Planes.{bit_at, low_at, deficit_at, signs, Ripples, Claims, Chosen, LastDigit, Shifted, Shiftable}
 use Rattle.verdicts.specs.Inner.Steps.{Passable, Onwards}
-use Rattle.verdicts.specs.declared.Low.{Low}
-use Rattle.verdicts.specs.declared.planes.Rippled.{Rippled}
 use Rattle.verdicts.specs.declared.planes.Claimed.{Claimed}
 use Rattle.verdicts.specs.declared.planes.Choice.{Choice}
 use Rattle.verdicts.proofs.Digits.{digit_le, digit_one}
+use Rattle.verdicts.proofs.Lows.{low_lt}
 use Rattle.verdicts.proofs.Finding.{some_found, some_none, last_ext}
 use Rattle.verdicts.proofs.Deficits.{one, gain_enough}
 use Rattle.verdicts.proofs.Tops.{digit_zero, digit_past, unset, top_found}
@@ -36,7 +35,7 @@ all_claims : (b : Bool) → cond b true false ≡ b
 all_claims true = refl
 all_claims false = refl
 
-module _ {q : Low} {far : ℕ} {up : List ℕ} {rights all : ℕ} (N : Passable far up rights all) {k : Claimed} (C : Claims q far rights k) where
+module _ {q : List ℕ} {far : ℕ} {up : List ℕ} {rights all : ℕ} (N : Passable far up rights all) {k : Claimed} (C : Claims q far rights k) where
   abbrev d : ℕ → ℕ
   d = deficit_at q up
 
@@ -131,8 +130,8 @@ module _ {q : Low} {far : ℕ} {up : List ℕ} {rights all : ℕ} (N : Passable 
       differ n e f = omega arith
 
   -- the rest of the parts
-  module _ {v : Choice} (E : Chosen k rights all v) {winner won : ℕ} (W : LastDigit v.claim winner won) {p : Rippled}
-      (R : Ripples q v.through v.away p) where
+  module _ {v : Choice} (E : Chosen k rights all v) {winner won : ℕ} (W : LastDigit v.claim winner won) {q' : List ℕ} {carry : ℕ}
+      (R : Ripples q v.through v.away q' carry) where
     pub placed_gain : v.gained ≡ gain (bit_at rights) d m
     placed_gain =
         same? k.first 0
@@ -151,17 +150,17 @@ module _ {q : Low} {far : ℕ} {up : List ℕ} {rights all : ℕ} (N : Passable 
 
     -- a digit through the planes
     record Through (j : ℕ) (mask : ℕ) : Type 0 where
-      moved : low_at p.low j + 64 * digit p.carry j + digit rights j ≡ low_at q j + 1
+      moved : low_at q' j + 64 * digit carry j + digit rights j ≡ low_at q j + 1
       gains : v.gained ≡ 1
-      turns : digit mask j + digit p.carry j ≡ 1
+      turns : digit mask j + digit carry j ≡ 1
 
     record Nearer (j : ℕ) (mask : ℕ) : Type 0 where
-      moved : low_at q j + 64 * digit p.carry j ≡ low_at p.low j + digit rights j
+      moved : low_at q j + 64 * digit carry j ≡ low_at q' j + digit rights j
       gains : v.gained ≡ 0
-      keeps : digit mask j ≡ digit p.carry j
+      keeps : digit mask j ≡ digit carry j
 
     abbrev mask : ℕ
-    mask = bit_xor p.carry (bit_xor v.away all)
+    mask = bit_xor carry (bit_xor v.away all)
 
     through : (j : ℕ) → j < m → Through j mask ⊎ Nearer j mask
     through j l =
@@ -170,21 +169,21 @@ module _ {q : Low} {far : ℕ} {up : List ℕ} {rights all : ℕ} (N : Passable 
         inr (record {
           moved = rw g.1 at (R.takes j (rw g.2 (digit_all m all N.whole j l)));
           gains = g.3;
-          keeps = rw (g.2, xor_self all, xor_zero_r p.carry);
+          keeps = rw (g.2, xor_self all, xor_zero_r carry);
         }))
         (λ z. let g = E.leading z in
         inl (record {
-          moved = added (low_at q j) (digit v.through j) (low_at p.low j) (digit p.carry j) (digit rights j)
+          moved = added (low_at q j) (digit v.through j) (low_at q' j) (digit carry j) (digit rights j)
               (R.adds j (rw g.2 (digit_zero j))) (rw g.1 (turned m all N.whole rights j l));
           gains = g.3;
-          turns = rw g.2 (turned m all N.whole p.carry j l);
+          turns = rw g.2 (turned m all N.whole carry j l);
         }))
       where
         added : (a t b c r : ℕ) → a + t ≡ b + 64 * c → t + r ≡ 1 → b + 64 * c + r ≡ a + 1
         added a t b c r e f = omega arith
 
     -- nothing is left over
-    pub passes_within : p.carry ≡ 0 → Onwards q up rights winner (record { low = p.low; far = far; winner = won; gained = v.gained }) up
+    pub passes_within : carry ≡ 0 → Onwards q up rights winner q' far up won v.gained
     passes_within z =
         record {
           winner_is = placed_winner;
@@ -193,13 +192,13 @@ module _ {q : Low} {far : ℕ} {up : List ℕ} {rights all : ℕ} (N : Passable 
             many = refl;
             far_is = N.far_is;
             each = λ j l. ⊎_elim
-                (λ t. add (low_at q j) (low_at p.low j) (digit p.carry j) (digit rights j) (get_or up j 0) v.gained t.moved t.gains (none j))
-                (λ t. take (low_at q j) (low_at p.low j) (digit p.carry j) (digit rights j) (get_or up j 0) v.gained t.moved t.gains (none j))
+                (λ t. add (low_at q j) (low_at q' j) (digit carry j) (digit rights j) (get_or up j 0) v.gained t.moved t.gains (none j))
+                (λ t. take (low_at q j) (low_at q' j) (digit carry j) (digit rights j) (get_or up j 0) v.gained t.moved t.gains (none j))
                 (through j l);
           };
         }
       where
-        none : (j : ℕ) → digit p.carry j ≡ 0
+        none : (j : ℕ) → digit carry j ≡ 0
         none j = ap (λ (n : ℕ). digit n j) z ∙ digit_zero j
 
         add : (a b c r u g : ℕ) → b + 64 * c + r ≡ a + 1 → g ≡ 1 → c ≡ 0 → b + 64 * u + r ≡ a + 64 * u + g
@@ -208,16 +207,12 @@ module _ {q : Low} {far : ℕ} {up : List ℕ} {rights all : ℕ} (N : Passable 
         take : (a b c r u g : ℕ) → a + 64 * c ≡ b + r → g ≡ 0 → c ≡ 0 → b + 64 * u + r ≡ a + 64 * u + g
         take a b c r u g e f h = omega arith
 
-    low_small : (o : Low) (j : ℕ) → low_at o j ≤ 63
-    low_small o j =
-        six _ _ _ _ _ _ (digit_le o.p0 j) (digit_le o.p1 j) (digit_le o.p2 j) (digit_le o.p3 j) (digit_le o.p4 j) (digit_le o.p5 j)
-      where
-        six : (a b c h e f : ℕ) → a ≤ 1 → b ≤ 1 → c ≤ 1 → h ≤ 1 → e ≤ 1 → f ≤ 1 → a + 2 * b + 4 * c + 8 * h + 16 * e + 32 * f ≤ 63
-        six a b c h e f ha hb hc hd he hf = omega arith
+    low_small : length q' ≡ 6 → (j : ℕ) → low_at q' j ≤ 63
+    low_small six j = let l = rw six at (low_lt q' j) in omega arith
 
     -- something is left over
-    pub passes_shiftable : Shiftable up mask v.gained
-    passes_shiftable =
+    pub passes_shiftable : length q' ≡ 6 → Shiftable up mask v.gained
+    passes_shiftable six =
         record {
           few = N.few;
           fit = N.fit;
@@ -237,14 +232,14 @@ module _ {q : Low} {far : ℕ} {up : List ℕ} {rights all : ℕ} (N : Passable 
         enough : (j : ℕ) → j < m → digit mask j ≤ get_or up j 0 + v.gained
         enough j l =
             ⊎_elim
-            (λ t. turn (digit mask j) (digit p.carry j) (get_or up j 0) v.gained t.turns t.gains)
-            (λ t. near (low_at q j) (low_at p.low j) (digit p.carry j) (digit rights j) (get_or up j 0) v.gained (digit mask j)
-            (digit_le p.carry j) (low_small p.low j) t.moved (digit_le rights j)
+            (λ t. turn (digit mask j) (digit carry j) (get_or up j 0) v.gained t.turns t.gains)
+            (λ t. near (low_at q j) (low_at q' j) (digit carry j) (digit rights j) (get_or up j 0) v.gained (digit mask j)
+            (digit_le carry j) (low_small six j) t.moved (digit_le rights j)
             (rw (placed_gain, ← digit_one (digit rights j) (digit_le rights j)) (gain_enough (bit_at rights) d m j l)) t.gains t.keeps)
             (through j l)
 
     pub passes_over : {up' : List ℕ} {far' : ℕ} → Shifted up mask v.gained up' → far' ≡ signs up'
-        → Onwards q up rights winner (record { low = p.low; far = far'; winner = won; gained = v.gained }) up'
+        → Onwards q up rights winner q' far' up' won v.gained
     passes_over {up'} S e =
         record {
           winner_is = placed_winner;
@@ -253,9 +248,9 @@ module _ {q : Low} {far : ℕ} {up : List ℕ} {rights all : ℕ} (N : Passable 
             many = S.many;
             far_is = e;
             each = λ j l. ⊎_elim
-                (λ t. add (low_at q j) (low_at p.low j) (digit p.carry j) (digit rights j) (get_or up j 0) (get_or up' j 0) v.gained (digit mask j)
+                (λ t. add (low_at q j) (low_at q' j) (digit carry j) (digit rights j) (get_or up j 0) (get_or up' j 0) v.gained (digit mask j)
                 t.moved t.gains t.turns (S.each j l))
-                (λ t. take (low_at q j) (low_at p.low j) (digit p.carry j) (digit rights j) (get_or up j 0) (get_or up' j 0) v.gained (digit mask j)
+                (λ t. take (low_at q j) (low_at q' j) (digit carry j) (digit rights j) (get_or up j 0) (get_or up' j 0) v.gained (digit mask j)
                 t.moved t.gains t.keeps (S.each j l))
                 (through j l);
           };

@@ -5,6 +5,8 @@ use Prim.Native.Nat.{ℕ, zero, suc, ◌+◌, ◌-◌, ◌*◌, ◌/◌, ◌%◌
 use native.Mathlib.Omega.{arith}
 use native.Mathlib.Nat.{div-div-eq-div-mul, pow-suc, mul_comm, lt_of_lt_of_le}
 use lib.Dec.{eqb}
+use mathlib.Core.Bool.{not}
+use mir.Val.{bool_byte}
 use lib.Pow.{pow_mono}
 use lib.ListN.{length, get_or, drop, replicate, length-drop}
 use lib.Bits.{bit_xor}
@@ -12,7 +14,7 @@ use lib.Seq.{drop-cons}
 use borrow.Author.Tests.{ne_eqb}
 use Rattle.verdicts.specs.Inner.Told.{digit}
 use Rattle.verdicts.specs.Inner.Planes.{sign, signs}
-use Rattle.race.proofs.Cases.{tested}
+use Rattle.race.proofs.Cases.{tested, same?}
 use Rattle.verdicts.proofs.Digits.{digit_le, digit_xor, apart}
 use Rattle.verdicts.proofs.Tops.{digit_zero}
 
@@ -62,11 +64,16 @@ sign_zero u e = rw e
 pub sign_one : (u : ℕ) → (u ≡ 0 → ⊥) → sign u ≡ 1
 sign_one u e = rw (ne_eqb u 0 e)
 
-pub signs_back : (up : List ℕ) (far j : ℕ) → 0 < j → j ≤ length up → far ≡ signs (drop j up) → far * 2 + sign (get_or up (j - 1) 0) ≡ signs (drop (j - 1) up)
+-- one more, as the code counts it
+pub sign_byte : (u : ℕ) → bool_byte (not (eqb u 0)) ≡ sign u
+sign_byte u = same? u 0 (λ e. rw e refl) (λ e. rw (ne_eqb u 0 e) refl)
+
+pub signs_back : (up : List ℕ) (far j : ℕ) → 0 < j → j ≤ length up → far ≡ signs (drop j up)
+    → far * 2 + bool_byte (not (eqb (get_or up (j - 1) 0) 0)) ≡ signs (drop (j - 1) up)
 signs_back up far zero p l e = absurd (omega arith)
 signs_back up far (suc j) p l e =
     let q : suc j - 1 ≡ j = omega arith in
-    rw (q, e) (sym (signs_step up j l))
+    rw (q, e, sign_byte (get_or up j 0)) (sym (signs_step up j l))
 
 pub signs_none : (m : ℕ) → signs (replicate m 0) ≡ 0
 unfolding signs

@@ -1,58 +1,217 @@
--- A step from its parts: where nobody was right the deficits and the winner stay, and else they go as `pass` says. Assumes nothing.
+-- A place of the race over verdicts: the fields that the code leaves are seen as the standing and the counts of the next place. Assumes nothing.
 use mathlib.Core.Path.{◌≡◌, refl, sym, ap, ◌∙◌}
-use mathlib.Core.Bool.{false}
-use mathlib.Core.List.{List}
-use Prim.Native.Nat.{ℕ, ◌+◌, ◌≤◌, ◌<◌}
+use mathlib.Core.Bool.{Bool, true, false, cond}
+use mathlib.Core.List.{List, [], ◌∷◌}
+use Prim.Native.Nat.{ℕ, zero, suc, ◌+◌, ◌-◌, ◌≤◌, ◌<◌}
 use native.Mathlib.Omega.{arith}
-use lib.ListN.{length}
+use lib.ListN.{length, get_or, replicate, length-replicate, length-append, get_or-append, get_or-eq_default}
+use lib.Seq.{get_or_at}
+use lib.Dec.{eqb, ltb}
+use borrow.Author.Tests.{ltb-true, ltb-false}
+use Rattle.std.proofs.lemmas.List.{ext_get_or}
+use Rattle.race.specs.Race.{Guess, silent, says, Verdict, hit, miss, none, judge, Standing, settle, scored}
+use Rattle.race.specs.Inner.Held.{counter_limit, settled, tallied}
 use Rattle.race.specs.declared.Tally.{Tally}
-use Rattle.verdicts.specs.Inner.Told.{digit}
-use Rattle.verdicts.specs.Inner.Deficits.{some_of, claims, gain}
-use Rattle.verdicts.specs.Inner.Planes.{bit_at, deficit_at}
-use Rattle.verdicts.specs.Inner.Steps.{Onwards, Steppable, Stepped, Tells}
-use Rattle.verdicts.specs.declared.Low.{Low}
+use Rattle.race.specs.Inner.Raced.{Raced, Room, judged}
+use Rattle.race.proofs.Cases.{tested, same?}
+use Rattle.race.proofs.Standing.{no_score, scored_settled, settled_alike}
+use Rattle.verdicts.specs.Inner.Told.{digit, Fair, verdict_in}
+use Rattle.verdicts.specs.Inner.Deficits.{is_right, some_of, claims, gain, Behind}
+use Rattle.verdicts.specs.Inner.Planes.{bit_at, deficit_at, signs}
+use Rattle.verdicts.specs.Inner.Racing.{scores_of, Holds}
+use Rattle.verdicts.specs.Inner.Steps.{Passable, Onwards}
 use Rattle.verdicts.specs.declared.Masks.{Masks}
-use Rattle.verdicts.specs.declared.Race.{Race}
-use Rattle.verdicts.specs.declared.place.Onward.{Onward}
-use Rattle.verdicts.proofs.Deficits.{one, quiet_gain, quiet_successor}
+use Rattle.verdicts.proofs.Digits.{digit_le, digit_one}
+use Rattle.verdicts.proofs.Deficits.{one, winner_next, behind_next}
+use Rattle.verdicts.proofs.Lows.{low_none}
+use Rattle.verdicts.proofs.Signs.{signs_none}
 use Rattle.verdicts.proofs.Tops.{digit_zero, unset}
 
-module _ {race : Race} {up : List ℕ} {masks : Masks} {all : ℕ} {t : Tally} (C : Tells race.tally masks race.winner t) where
-  -- nobody was right
-  pub steps_quiet : Steppable race up masks all → masks.rights ≡ 0
-      → Stepped race up masks all (record { low = race.low; far = race.far; winner = race.winner; score = race.score; tally = t }) up
-  steps_quiet N z =
-      let none : (j : ℕ) → digit masks.rights j ≡ 0 = λ j. ap (λ (n : ℕ). digit n j) z ∙ digit_zero j in
-      let wrong : (j : ℕ) → j < length up → bit_at masks.rights j ≡ false = λ j l. unset masks.rights j (none j) in
-      let g : gain (bit_at masks.rights) (deficit_at race.low up) (length up) ≡ 0 =
-      quiet_gain (bit_at masks.rights) (deficit_at race.low up) (length up) wrong in
+-- ---- the scores
+
+module _ (top : ℕ) (planes up : List ℕ) where
+  pub scores_length : (m : ℕ) → length (scores_of top planes up m) ≡ m
+  unfolding scores_of
+  scores_length zero = refl
+  scores_length (suc m) = omega (arith, length-append (scores_of top planes up m) ((top - deficit_at planes up m) ∷ []), scores_length m)
+
+  pub scores_at : (m j : ℕ) → j < m → get_or (scores_of top planes up m) j 0 ≡ top - deficit_at planes up j
+  unfolding scores_of
+  scores_at zero j l = absurd (omega arith)
+  scores_at (suc m) j l =
+      same? j m
+      (λ e. rw e (get_or_at (scores_of top planes up m) (top - deficit_at planes up m) [] 0 m (scores_length m)))
+      (λ e. get_or-append (scores_of top planes up m) ((top - deficit_at planes up m) ∷ []) 0 j (omega (arith, scores_length m))
+      ∙ scores_at m j (omega arith))
+
+  -- those of a standing that the deficits are behind
+  pub scores_behind : {m : ℕ} {st : Standing} → Behind m st top (deficit_at planes up) → scores_of top planes up m ≡ st.scores
+  scores_behind {m} {st} B =
+      ext_get_or 0 (scores_of top planes up m) st.scores (scores_length m ∙ sym B.scores_are)
+      (λ j l. let h : j < m = omega (arith, scores_length m) in omega (arith, scores_at m j h, B.sums j h))
+
+-- before the first place
+pub scores_none : (m n : ℕ) → scores_of 0 (replicate n 0) (replicate m 0) m ≡ replicate m 0
+scores_none m n =
+    ext_get_or 0 (scores_of 0 (replicate n 0) (replicate m 0) m) (replicate m 0)
+    (scores_length 0 (replicate n 0) (replicate m 0) m ∙ sym (length-replicate {A = ℕ} m 0))
+    (λ j l. let h : j < m = omega (arith, scores_length 0 (replicate n 0) (replicate m 0) m) in
+    omega (arith, scores_at 0 (replicate n 0) (replicate m 0) m j h, no_score m j))
+
+pub holds_none : (m n : ℕ) → 16 ≡ m → Holds (replicate n 0) (replicate m 0) 0 0 0
+holds_none m n e =
+    record {
+      far_is = sym (signs_none m);
+      within = omega arith;
+      behind = λ j l. omega (arith, low_none n j, no_score m j);
+      winner_none = omega (arith, low_none n 0, no_score m 0);
+    }
+
+-- ---- what the code holds
+
+-- the standing that is seen
+abbrev pub seen : List ℕ → List ℕ → ℕ → ℕ → Standing
+seen planes up winner score = record { winner = winner; scores = scores_of score planes up 16 }
+
+module _ {planes up : List ℕ} {far winner score : ℕ} (H : Holds planes up far winner score) where
+  pub held_behind : Behind 16 (seen planes up winner score) score (deficit_at planes up)
+  held_behind =
       record {
-        winner_is = sym (quiet_successor (bit_at masks.rights) (deficit_at race.low up) (length up) wrong race.winner);
-        score_is = grown race.score _ g;
-        counts = C;
-        moves = record {
-          many = refl;
-          far_is = N.passable.far_is;
-          each = λ j l. stays (deficit_at race.low up j) (digit masks.rights j) _ (none j) g;
-        };
-      }
-    where
-      grown : (s g : ℕ) → g ≡ 0 → s ≡ s + g
-      grown s g e = omega arith
-
-      stays : (d z g : ℕ) → z ≡ 0 → g ≡ 0 → d + z ≡ d + g
-      stays d z g e f = omega arith
-
-  pub steps_on : {o : Onward} {up' : List ℕ} → Onwards race.low up masks.rights race.winner o up'
-      → Stepped race up masks all (record { low = o.low; far = o.far; winner = o.winner; score = race.score + o.gained; tally = t }) up'
-  steps_on O =
-      record {
-        winner_is = O.winner_is;
-        score_is = ap (λ (n : ℕ). race.score + n) O.gained_is;
-        counts = C;
-        moves = rw (← O.gained_is) O.moves;
+        within = H.within;
+        scores_are = scores_length score planes up 16;
+        sums = λ j l. omega (arith, scores_at score planes up 16 j l, H.behind j l);
+        winner_none = H.winner_none;
       }
 
--- a place adds at most 1 to the largest score
-pub gained_le : {q : Low} {up : List ℕ} {rights winner : ℕ} {o : Onward} {up' : List ℕ} → Onwards q up rights winner o up' → o.gained ≤ 1
-gained_le {q} {up} {rights} O = rw O.gained_is (one (some_of (claims (bit_at rights) (deficit_at q up) 0) (length up)))
+  -- the winner's score
+  pub held_score : get_or (scores_of score planes up 16) winner 0 ≡ score
+  held_score = omega (arith, scores_at score planes up 16 winner H.within, H.winner_none)
+
+-- and back
+pub behind_holds : {planes up : List ℕ} {far winner score : ℕ} {st : Standing} → Behind 16 st score (deficit_at planes up) → far ≡ signs up
+    → winner ≡ st.winner → Holds planes up far winner score
+behind_holds B f w =
+    record {
+      far_is = f;
+      within = rw w B.within;
+      behind = λ j l. omega (arith, B.sums j l);
+      winner_none = rw w B.winner_none;
+    }
+
+-- ---- one place
+
+-- a guess that has the verdict v where 1 comes
+guess_of : Verdict → Guess
+guess_of hit = says 1
+guess_of miss = says 0
+guess_of none = silent
+
+judged_back : (v : Verdict) → judge (guess_of v) 1 ≡ v
+unfolding guess_of
+judged_back hit = refl
+judged_back miss = refl
+judged_back none = refl
+
+same_standing : {w : ℕ} {s : List ℕ} {st : Standing} → w ≡ st.winner → s ≡ st.scores → (let a : Standing = record { winner = w; scores = s } in a) ≡ st
+same_standing p q = rw (p, q) refl
+
+-- who is right by the masks
+right_in : (masks : Masks) (j : ℕ) → bit_at masks.rights j ≡ is_right (verdict_in masks j)
+right_in masks j = right (bit_at masks.rights j) (eqb (digit masks.speaking j) 1)
+  where
+    right : (a b : Bool) → a ≡ is_right (cond a hit (cond b miss none))
+    right true b = refl
+    right false true = refl
+    right false false = refl
+
+-- where nobody was right, no score moves
+settled_missed : (v : ℕ → Verdict) (st : Standing) (m : ℕ) → ((j : ℕ) → j < m → is_right (v j) ≡ false) → settled v st m ≡ st
+unfolding settled
+settled_missed v st zero e = refl
+settled_missed v st (suc m) e = stays (v m) (settled v st m) m (e m (omega arith)) ∙ settled_missed v st m (λ j l. e j (omega arith))
+  where
+    stays : (w : Verdict) (s : Standing) (j : ℕ) → is_right w ≡ false → settle w s j ≡ s
+    stays hit s j e = absurd (cc)
+    stays miss s j e = refl
+    stays none s j e = refl
+
+module _ {planes up : List ℕ} {far winner score : ℕ} (H : Holds planes up far winner score) {masks : Masks} (F : Fair 16 masks) where
+  abbrev st : Standing
+  st = seen planes up winner score
+
+  -- what is seen, where the counts are t
+  module _ {t : Tally} {r : Raced} (V : (let a : Raced = record { standing = st; tally = t } in a) ≡ r) where
+    pub score_fits : Room r → score < counter_limit
+    score_fits R =
+        let room : Room (record { standing = st; tally = t }) = rw V R in
+        omega (arith, held_score H, room.scores.scores_fit winner)
+
+  pub quiet : masks.rights ≡ 0 → settled (verdict_in masks) st 16 ≡ st
+  quiet z =
+      settled_missed (verdict_in masks) st 16
+      (λ j l. sym (right_in masks j) ∙ unset masks.rights j (ap (λ (n : ℕ). digit n j) z ∙ digit_zero j))
+
+  -- the whole place then
+  pub seen_quiet : {t t' : Tally} {r : Raced} → (let a : Raced = record { standing = st; tally = t } in a) ≡ r → t' ≡ tallied (verdict_in masks winner) t
+      → masks.rights ≡ 0 → (let a : Raced = record { standing = st; tally = t' } in a) ≡ judged 16 r (verdict_in masks)
+  seen_quiet V e z = rw (← V, e, quiet z) refl
+
+  module _ (many : length up ≡ 16) where
+    pub passable : {t : Tally} {r : Raced} → (let a : Raced = record { standing = st; tally = t } in a) ≡ r → Room r → Passable far up masks.rights 65535
+    passable V R =
+        let fits : score < counter_limit = score_fits V R in
+        record {
+          few = omega arith;
+          whole = rw many refl;
+          fit = λ j. dec (λ (l : j < 16). omega (arith, H.behind j l)) (λ (l : 16 ≤ j). omega (arith, get_or-eq_default up 0 {n = j} (omega arith)));
+          far_is = H.far_is;
+          narrow = rw many F.few;
+        }
+      where
+        dec : {A : Type 0} {j : ℕ} → (j < 16 → A) → (16 ≤ j → A) → A
+        dec {A} {j} f g = tested (ltb j 16) (λ t. f (ltb-true _ _ t)) (λ t. g (ltb-false _ _ t))
+
+    module _ {planes' up' : List ℕ} {far' winner' gained : ℕ} (O : Onwards planes up masks.rights winner planes' far' up' winner' gained) where
+      abbrev right : ℕ → Bool
+      right = bit_at masks.rights
+
+      abbrev before : ℕ → ℕ
+      before = deficit_at planes up
+
+      abbrev said : ℕ → Guess
+      said j = guess_of (verdict_in masks j)
+
+      rights_are : (j : ℕ) → j < 16 → right j ≡ is_right (judge (said j) 1)
+      rights_are j l = right_in masks j ∙ ap is_right (sym (judged_back (verdict_in masks j)))
+
+      gained_is : gained ≡ gain right before 16
+      gained_is = rw many at O.gained_is
+
+      pub gained_le : gained ≤ 1
+      gained_le = rw O.gained_is (one (some_of (claims right before 0) (length up)))
+
+      next : Behind 16 (scored said 1 st 16) (score + gained) (deficit_at planes' up')
+      next =
+          rw gained_is
+          (behind_next 16 said 1 st score before right (held_behind H) rights_are (deficit_at planes' up')
+          (λ j l. rw (digit_one (digit masks.rights j) (digit_le masks.rights j), ← gained_is) (O.moves.each j (rw many l))))
+
+      goes : scored said 1 st 16 ≡ settled (verdict_in masks) st 16
+      goes =
+          scored_settled said 1 st 16
+          ∙ settled_alike (λ j. judge (said j) 1) (verdict_in masks) st 16 (λ j l. judged_back (verdict_in masks j))
+
+      winner_is : winner' ≡ (scored said 1 st 16).winner
+      winner_is = O.winner_is ∙ rw many (sym (winner_next 16 said 1 st score before right (held_behind H) rights_are))
+
+      -- the standing of the next place
+      pub stands_next : seen planes' up' winner' (score + gained) ≡ settled (verdict_in masks) st 16
+      stands_next = same_standing winner_is (scores_behind (score + gained) planes' up' next) ∙ goes
+
+      pub holds_next : Holds planes' up' far' winner' (score + gained)
+      holds_next = behind_holds next O.moves.far_is winner_is
+
+      -- and the counts
+      pub seen_next : {t t' : Tally} {r : Raced} → (let a : Raced = record { standing = st; tally = t } in a) ≡ r → t' ≡ tallied (verdict_in masks winner) t
+          → (let a : Raced = record { standing = seen planes' up' winner' (score + gained); tally = t' } in a) ≡ judged 16 r (verdict_in masks)
+      seen_next V e = rw (← V, e, stands_next) refl

@@ -1,129 +1,91 @@
 // The race from place to place.
-ghost use Rattle.std.specs.Prelude.{◌≡◌, ◌<◌};
-ghost use Rattle.race.specs.Inner.Held.{counter_limit};
-ghost use Rattle.verdicts.specs.Inner.Steps.{Onwards, Passable, Steppable, Stepped, ended};
+ghost use Rattle.std.specs.Prelude.{◌≡◌};
+ghost use Rattle.race.specs.Inner.Raced.{Room, judged, outcome_in, unraced};
+ghost use Rattle.verdicts.specs.Inner.Told.{Fair, verdict_in};
 
 use crate::above::{mask_of, shift};
 use crate::planes::{choose, claim, ripple, top_bit};
 use crate::tally::count_masks;
-use crate::{Low, Masks, Race};
+use crate::{COUNT, Masks};
 use race::{Outcome, Tally};
+use std::marker::Model;
 
-// Before the first place nobody has a score.
-pub fn start() -> Race
-    ensures { result ≡ record {
-      low = record { p0 = 0; p1 = 0; p2 = 0; p3 = 0; p4 = 0; p5 = 0 };
-      far = 0;
-      winner = 0;
-      score = 0;
-      tally = record { hits = 0; run = 0; longest = 0 };
-    } }
-{
-    let low = Low {
-        p0: 0,
-        p1: 0,
-        p2: 0,
-        p3: 0,
-        p4: 0,
-        p5: 0,
-    };
-    let tally = Tally {
-        hits: 0,
-        run: 0,
-        longest: 0,
-    };
-    Race {
-        low,
-        far: 0,
-        winner: 0,
-        score: 0,
-        tally,
-    }
+// The mask of every sub-predictor.
+const ALL: u32 = 0xffff;
+
+// The race of sixteen sub-predictors after some places. The deficit of each is how far its score is behind the largest, which is the winner's:
+// digit j of planes[k] is digit k of the deficit of j, up[j] has what is above six digits, and digit j of `far` is 1 where that is not 0.
+#[derive(Drop)]
+pub struct Race {
+    planes: [u32; 6],
+    up: [u64; COUNT],
+    far: u32,
+    winner: usize,
+    score: u64,
+    tally: Tally,
 }
 
-// The deficits and the winner after a place, and what the place added to the largest score.
-#[derive(Clone, Copy)]
-pub struct Onward {
-    pub low: Low,
-    pub far: u32,
-    pub winner: usize,
-    pub gained: u64,
+// Clauses see the standing and the counts.
+impl Model for Race {
+    ghost use Rattle.race.specs.Inner.Raced.{Raced};
+    ghost use Rattle.verdicts.specs.Inner.Racing.{Holds, scores_of};
+
+    ghost Value = { Raced };
+
+    ghost view = { λ r. record {
+      standing = record { winner = r.winner; scores = scores_of r.score r.planes r.up 16 };
+      tally = r.tally;
+    } };
+
+    ghost invariant = { λ r. Holds r.planes r.up r.far r.winner r.score };
 }
 
-// The deficits and the winner at a place, all sub-predictors at once. `up` has what is above the planes, `all` every sub-predictor.
-fn pass(low: Low, far: u32, up: &mut [u64], rights: u32, winner: usize, all: u32) -> Onward
-    requires { Passable far up.old rights all }
-    ensures { Onwards low up.old rights winner result up.new }
-{
-    let k = claim(low, far, rights);
-    let v = choose(k, rights, all);
-    let won = top_bit(v.claim, winner);
-    let p = ripple(low, v.through, v.away);
-    let gained = v.gained;
-    let away = v.away;
-    let carry = p.carry;
-    let next = p.low;
-    if carry == 0 {
-        return Onward {
-            low: next,
-            far,
-            winner: won,
-            gained,
-        };
+impl Race {
+    // Before the first place nobody has a score.
+    pub fn new() -> Self
+        ensures { result ≡ unraced 16 }
+    {
+        Race {
+            planes: [0; 6],
+            up: [0; COUNT],
+            far: 0,
+            winner: 0,
+            score: 0,
+            tally: Tally::default(),
+        }
     }
-    shift(up, carry ^ (away ^ all), gained);
-    let above = mask_of(up);
-    Onward {
-        low: next,
-        far: above,
-        winner: won,
-        gained,
-    }
-}
 
-// One place of the race: the winner's verdict is counted, and each right one gains a point. Where none was right no score moves.
-pub fn step(race: Race, up: &mut [u64], masks: Masks, all: u32) -> Race
-    requires { Steppable race up.old masks all }
-    ensures { Stepped race up.old masks all result up.new }
-{
-    let low = race.low;
-    let far = race.far;
-    let winner = race.winner;
-    let score = race.score;
-    let rights = masks.rights;
-    let tally = count_masks(race.tally, masks, winner);
-    if rights == 0 {
-        return Race {
-            low,
-            far,
-            winner,
-            score,
-            tally,
-        };
+    // One place: the winner's verdict is counted, and each right one gains a point. Where none was right no score moves.
+    pub fn step(&mut self, masks: Masks)
+        requires room { Room self.old }
+        requires fair { Fair 16 masks }
+        ensures { self.new ≡ judged 16 self.old (verdict_in masks) }
+    {
+        let rights = masks.rights;
+        self.tally = count_masks(self.tally, masks, self.winner);
+        if rights == 0 {
+            return;
+        }
+        let claimed = claim(&self.planes, self.far, rights);
+        let choice = choose(claimed, rights, ALL);
+        self.winner = top_bit(choice.claim, self.winner);
+        self.score += choice.gained;
+        let carry = ripple(&mut self.planes, choice.through, choice.away);
+        if carry != 0 {
+            shift(&mut self.up, carry ^ (choice.away ^ ALL), choice.gained);
+            self.far = mask_of(&self.up);
+        }
     }
-    let o = pass(low, far, up, rights, winner, all);
-    let next = o.low;
-    let gained = o.gained;
-    let grown = score + gained;
-    Race {
-        low: next,
-        far: o.far,
-        winner: o.winner,
-        score: grown,
-        tally,
-    }
-}
 
-// The outcome of what the race holds after the last place.
-pub fn ended(race: Race) -> Outcome
-    requires { race.winner < counter_limit }
-    ensures { result ≡ ended race }
-{
-    let tally = race.tally;
-    Outcome {
-        hits: tally.hits,
-        longest: tally.longest,
-        winner: race.winner as u64 + 1,
-        score: race.score,
+    // How the race ends.
+    pub fn outcome(&self) -> Outcome
+        ensures { result ≡ outcome_in self.now }
+    {
+        Outcome {
+            hits: self.tally.hits,
+            longest: self.tally.longest,
+            winner: self.winner as u64 + 1,
+            score: self.score,
+        }
     }
 }

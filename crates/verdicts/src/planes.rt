@@ -1,34 +1,18 @@
 // The deficits' low digits, all sub-predictors at once.
+ghost use Rattle.std.specs.Prelude.{length};
 ghost use Rattle.verdicts.specs.Inner.Planes.{Chosen, Claims, LastDigit, Ripples};
 
-use crate::Low;
-
-// The planes after c went through them, and what is left over.
-#[derive(Clone, Copy)]
-pub struct Rippled {
-    pub low: Low,
-    pub carry: u32,
-}
-
-// To the deficits at the digits of c, 1 is added where x has 0, and 1 is taken away where x has 1.
-pub fn ripple(q: Low, c: u32, x: u32) -> Rippled
-    ensures { Ripples q c x result }
+// To the deficits at the digits of c, 1 is added where x has 0, and 1 is taken away where x has 1; returns what is left over.
+pub fn ripple(planes: &mut [u32; 6], c: u32, x: u32) -> u32
+    ensures { Ripples planes.old c x planes.new result }
 {
-    let c1 = c & (q.p0 ^ x);
-    let c2 = c1 & (q.p1 ^ x);
-    let c3 = c2 & (q.p2 ^ x);
-    let c4 = c3 & (q.p3 ^ x);
-    let c5 = c4 & (q.p4 ^ x);
-    let c6 = c5 & (q.p5 ^ x);
-    let low = Low {
-        p0: q.p0 ^ c,
-        p1: q.p1 ^ c1,
-        p2: q.p2 ^ c2,
-        p3: q.p3 ^ c3,
-        p4: q.p4 ^ c4,
-        p5: q.p5 ^ c5,
-    };
-    Rippled { low, carry: c6 }
+    let mut carry = c;
+    for plane in planes.iter_mut() {
+        let digits = *plane;
+        *plane = digits ^ carry;
+        carry &= digits ^ x;
+    }
+    carry
 }
 
 // The right ones with no deficit, and those with a deficit of at most 1.
@@ -39,12 +23,15 @@ pub struct Claimed {
 }
 
 // `far` has those with a deficit above the planes.
-pub fn claim(q: Low, far: u32, rights: u32) -> Claimed
-    ensures { Claims q far rights result }
+pub fn claim(planes: &[u32; 6], far: u32, rights: u32) -> Claimed
+    ensures { Claims planes.now far rights result }
 {
-    let high = q.p1 | q.p2 | q.p3 | q.p4 | q.p5 | far;
+    let mut high = far;
+    for plane in &planes[1..] {
+        high |= *plane;
+    }
     let near = rights ^ (rights & high);
-    let first = near ^ (near & q.p0);
+    let first = near ^ (near & planes[0]);
     Claimed { first, near }
 }
 

@@ -4,13 +4,14 @@ use mathlib.Core.Path.{◌≡◌, ap, ◌∙◌}
 use mathlib.Core.List.{List}
 use Prim.Native.Nat.{ℕ, ◌≤◌, ◌<◌}
 use native.Mathlib.Omega.{arith}
+use lib.ListN.{length}
 use Rattle.alphabet.specs.Alphabet.{distinct, sorted}
 use Rattle.alphabet.proofs.Alphabets.{Bytes}
 use Rattle.mmc_bits.specs.Levels.{cap, levels}
 use Rattle.mmc_bits.specs.Space.{final}
 use Rattle.multi_mmc.specs.Tracks.{bits_estimate, store_estimate}
 use Rattle.multi_mmc.proofs.LiteralAnswers.{Taken, literal_refused, literal_taken, many_needed, many_ran, two_needed, two_ran}
-use Rattle.multi_mmc.proofs.Translated.{Translation, bits_are, size_is, source_is, taken_is, taken_length, written_is}
+use Rattle.multi_mmc.proofs.Translated.{Translation, bits_are, bits_many, size_is, source_is, taken_is, taken_length, written_is}
 use Rattle.multi_mmc.proofs.multi_mmc_literal.Goals as goal
 
 pub returns-then-number-ne-DONE : goal.returns-then-number-ne-DONE
@@ -35,8 +36,21 @@ slice_bounds-samples-end-2 c =
     } in
     taken_length translation
 
+pub new-requires : goal.new-requires
+new-requires c =
+    let done : c.literal_refusal-number.result ≡ 0 = c.if-number-ne-DONE.false in
+    let ran : Taken c.args.symbols.now c.args.out.now c.args.space.now = literal_taken _ _ _ c.literal_refusal-number.ensures done in
+    let translation : Translation c.args.symbols.now c.args.out.now c.value_sorted_alphabet-alphabet.result c.value_sorted_alphabet-alphabet.new.out = record {
+      fits = ran.fits;
+      room = ran.room;
+      answers = c.value_sorted_alphabet-alphabet.ensures.0;
+      leaves = c.value_sorted_alphabet-alphabet.ensures.1;
+    } in
+    source_is translation
+
 pub bits_estimate-requires : goal.bits_estimate-requires
 bits_estimate-requires c =
+    let bytes : Bytes c.args.symbols.now = λ i l. omega (arith, c.type_inv.symbols i) in
     let done : c.literal_refusal-number.result ≡ 0 = c.if-number-ne-DONE.false in
     let ran : Taken c.args.symbols.now c.args.out.now c.args.space.now = literal_taken _ _ _ c.literal_refusal-number.ensures done in
     let translation : Translation c.args.symbols.now c.args.out.now c.from-alphabet.result c.value_sorted_alphabet-found.new.out = record {
@@ -46,7 +60,7 @@ bits_estimate-requires c =
       leaves = c.value_sorted_alphabet-found.ensures.1;
     } in
     let few : distinct c.args.symbols.now ≤ 2 = omega (arith, size_is translation, c.if-binary.true) in
-    (ran.many, source_is translation, rw (two_needed c.args.symbols.now few) at ran.work)
+    (omega (arith, ran.many, ap length c.new.ensures, bits_many translation bytes few), rw (two_needed c.args.symbols.now few) at ran.work)
 
 pub returns-then-binary : goal.returns-then-binary
 returns-then-binary c =
@@ -60,7 +74,7 @@ returns-then-binary c =
       leaves = c.value_sorted_alphabet-found.ensures.1;
     } in
     let few : distinct c.args.symbols.now ≤ 2 = omega (arith, size_is translation, c.if-binary.true) in
-    let bits = bits_are translation bytes few in
+    let bits = c.new.ensures ∙ bits_are translation bytes few in
     two_ran c.args.symbols.now c.args.out.now c.args.space.now c.literal_refusal-number.ensures done (written_is translation) few
     (c.bits_estimate.ensures.value ∙ ap bits_estimate bits)
     (c.bits_estimate.ensures.counters_after ∙ ap (λ (b : List ℕ). final levels cap b c.args.space.now) bits)

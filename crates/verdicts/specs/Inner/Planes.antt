@@ -4,8 +4,6 @@ use Rattle.std.specs.Int.Bits.{bit_xor}
 use Rattle.race.specs.Inner.Held.{counter_limit}
 use Rattle.verdicts.specs.Inner.Told.{digit}
 use Rattle.verdicts.specs.Inner.Deficits.{last_of}
-use Rattle.verdicts.specs.declared.Low.{Low}
-use Rattle.verdicts.specs.declared.planes.Rippled.{Rippled}
 use Rattle.verdicts.specs.declared.planes.Claimed.{Claimed}
 use Rattle.verdicts.specs.declared.planes.Choice.{Choice}
 
@@ -13,14 +11,14 @@ use Rattle.verdicts.specs.declared.planes.Choice.{Choice}
 abbrev pub bit_at : ℕ → ℕ → Bool
 bit_at n j = eqb (digit n j) 1
 
--- the six low digits of deficit j
-abbrev pub low_at : Low → ℕ → ℕ
-low_at q j =
-    digit q.p0 j + 2 * digit q.p1 j + 4 * digit q.p2 j + 8 * digit q.p3 j + 16 * digit q.p4 j + 32 * digit q.p5 j
+-- the low digits of deficit j, the lowest first
+unfoldable pub low_at : List ℕ → ℕ → ℕ
+low_at [] j = 0
+low_at (p ∷ ps) j = digit p j + 2 * low_at ps j
 
 -- deficit j
-abbrev pub deficit_at : Low → List ℕ → ℕ → ℕ
-deficit_at q up j = low_at q j + 64 * get_or up j 0
+abbrev pub deficit_at : List ℕ → List ℕ → ℕ → ℕ
+deficit_at planes up j = low_at planes j + 64 * get_or up j 0
 
 -- the mask of the numbers that are not 0
 abbrev pub sign : ℕ → ℕ
@@ -31,12 +29,12 @@ signs [] = 0
 signs (u ∷ us) = signs us * 2 + sign u
 
 -- c goes through the planes: where x has 0 it is added, where x has 1 it is taken away; what is left over is the carry
-pub record Ripples (q : Low) (c x : ℕ) (r : Rippled) : Type 0 where
-  pub adds : (j : ℕ) → digit x j ≡ 0 → low_at q j + digit c j ≡ low_at r.low j + 64 * digit r.carry j
-  pub takes : (j : ℕ) → digit x j ≡ 1 → low_at q j + 64 * digit r.carry j ≡ low_at r.low j + digit c j
+pub record Ripples (q : List ℕ) (c x : ℕ) (q' : List ℕ) (carry : ℕ) : Type 0 where
+  pub adds : (j : ℕ) → digit x j ≡ 0 → low_at q j + digit c j ≡ low_at q' j + 64 * digit carry j
+  pub takes : (j : ℕ) → digit x j ≡ 1 → low_at q j + 64 * digit carry j ≡ low_at q' j + digit c j
 
 -- who was right with no deficit, and who was with a deficit of at most 1
-pub record Claims (q : Low) (far rights : ℕ) (r : Claimed) : Type 0 where
+pub record Claims (q : List ℕ) (far rights : ℕ) (r : Claimed) : Type 0 where
   pub first_is : (j : ℕ) → low_at q j + digit far j ≡ 0 → digit r.first j ≡ digit rights j
   pub first_not : (j : ℕ) → 0 < low_at q j + digit far j → digit r.first j ≡ 0
   pub near_is : (j : ℕ) → low_at q j + 64 * digit far j ≤ 1 → digit r.near j ≡ digit rights j

@@ -1,38 +1,22 @@
 -- `mask_of` meets its contract: from the end on, `far` is the mask of the numbers that have been passed. Assumes nothing.
-use Prim.Native.Nat.{◌+◌, ◌*◌, ◌-◌, ◌<◌}
-use mathlib.Core.Path.{◌≡◌}
+use Prim.Native.Nat.{◌-◌}
+use mathlib.Core.Path.{ap, ◌∙◌}
 use native.Mathlib.Omega.{arith}
-use lib.ListN.{drop, get_or}
-use Rattle.verdicts.specs.Inner.Planes.{sign, signs}
-use Rattle.verdicts.proofs.Signs.{signs_end, signs_small, signs_back, sign_zero, sign_one}
+use lib.ListN.{drop}
+use Rattle.verdicts.specs.Inner.Planes.{signs}
+use Rattle.verdicts.proofs.Signs.{signs_end, signs_small, signs_back}
 use Rattle.verdicts.proofs.above.mask_of.Goals as goal
 
 pub loop-j-init : goal.loop-j-init
-loop-j-init c = (omega arith, signs_end c.args.up.now)
+loop-j-init c = signs_end c.args.up.now ∙ ap (λ n. signs (drop n c.args.up.now)) c.told-up
 
 pub overflow_mul-far : goal.overflow_mul-far
-overflow_mul-far c =
-    let small : c.loop-j.far < 65536 = omega (arith, c.loop-j.invariant.1, signs_small c.args.up.now c.loop-j.j c.requires) in
-    omega (arith, small)
+overflow_mul-far c = omega (arith, c.loop-j.invariant, signs_small c.args.up.now c.loop-j.j (omega arith))
 
 pub overflow_add-far : goal.overflow_add-far
 overflow_add-far c =
-    let small : c.loop-j.far < 65536 = omega (arith, c.loop-j.invariant.1, signs_small c.args.up.now c.loop-j.j c.requires) in
-    omega (arith, small)
-
-pub loop-j-preserved-then-up-j-ne0 : goal.loop-j-preserved-then-up-j-ne0
-loop-j-preserved-then-up-j-ne0 c =
-    let back : 0 < c.loop-j.j → let u = c.args.up.now in c.loop-j.far * 2 + sign (get_or u (c.loop-j.j - 1) 0) ≡ signs (drop (c.loop-j.j - 1) u) = λ p. signs_back c.args.up.now c.loop-j.far c.loop-j.j p c.loop-j.invariant.0 c.loop-j.invariant.1 in
-    let u = c.args.up.now in
-    (omega arith, omega (arith, back (omega arith), sign_one (get_or u (c.loop-j.j - 1) 0) c.if-up-j-ne0.true))
+    let l = c.loop-j in
+    omega (arith, signs_back c.args.up.now l.far l.j c.loop-j-test.true (omega arith) l.invariant, signs_small c.args.up.now (l.j - 1) (omega arith))
 
 pub loop-j-preserved : goal.loop-j-preserved
-loop-j-preserved c =
-    let back : 0 < c.loop-j.j → let u = c.args.up.now in c.loop-j.far * 2 + sign (get_or u (c.loop-j.j - 1) 0) ≡ signs (drop (c.loop-j.j - 1) u) = λ p. signs_back c.args.up.now c.loop-j.far c.loop-j.j p c.loop-j.invariant.0 c.loop-j.invariant.1 in
-    let u = c.args.up.now in
-    (omega arith, omega (arith, back (omega arith), sign_zero (get_or u (c.loop-j.j - 1) 0) c.if-up-j-ne0.false))
-
-pub returns : goal.returns
-returns c =
-    let z : c.loop-j.j ≡ 0 = omega arith in
-    rw z at c.loop-j.invariant.1
+loop-j-preserved c = signs_back c.args.up.now c.loop-j.far c.loop-j.j c.loop-j-test.true (omega arith) c.loop-j.invariant
