@@ -1,7 +1,7 @@
 -- The run from place to place: what the code holds before place i, and how a place moves it. Assumes nothing.
 use Prim.Native.Nat.{ℕ, suc, ◌+◌, ◌*◌, ◌-◌, ◌%◌, ◌≤◌, ◌<◌, min}
-use mathlib.Core.Path.{◌≡◌, refl, sym, ap, ◌∙◌}
-use mathlib.Core.List.{List, [], ◌∷◌, ◌++◌, append-nil}
+use mathlib.Core.Path.{◌≡◌, sym, ap, ◌∙◌}
+use mathlib.Core.List.{List, [], ◌∷◌, append-nil}
 use native.Mathlib.Omega.{arith}
 use native.Mathlib.Numerals.{add-one}
 use lib.ListN.{get_or, length, drop, replicate, length-drop, length-replicate, get_or-eq_default}
@@ -10,7 +10,6 @@ use lib.Dec.{ltb}
 use borrow.Author.Tests.{ltb-true, ltb-false}
 use Rattle.std.proofs.lemmas.List.{drop_all}
 use Rattle.capture.specs.Inner.Sources.{AreBits}
-use Rattle.race.specs.Inner.Held.{counter_limit}
 use Rattle.race.specs.Inner.Raced.{Raced, Room, unraced, judged, outcome_in, raced_at}
 use Rattle.race.proofs.Cases.{tested}
 use Rattle.race.proofs.Placing.{raced_none, raced_room, judged_place, raced_ends}

@@ -12,7 +12,9 @@ use mmc_bits::place::place;
 use race::Outcome;
 use verdicts::place::Race;
 
-// All places, one after the other, from cleared counters on.
+// All places, one after the other, from cleared counters on. Not inlined: with its callers' values beside it the loop takes more registers than there
+// are.
+#[inline(never)]
 fn run(source: Source, counters: &mut Counters) -> Outcome
     ghost bits: { List ℕ }
     requires source { source ≡ bits }
@@ -26,9 +28,9 @@ fn run(source: Source, counters: &mut Counters) -> Outcome
     for (i, bit) in source.bits().enumerate() {
         let bit = bit as usize;
         let passed = place(counters, i, recent, bit, stored);
-        race.step(passed.masks);
         stored = passed.stored;
         recent = (recent * 2 + bit) % 65536;
+        race.step(passed.masks);
     }
     race.outcome()
 }

@@ -1,6 +1,6 @@
 -- `run` meets its contract: before place i it holds the counters, the context, the number of stored pairs and the race of the places before i, and
 -- `place` and `step` take each of them over the place. Assumes nothing.
-use mathlib.Core.Path.{refl, sym, ◌∙◌}
+use mathlib.Core.Path.{refl, ◌∙◌}
 use native.Mathlib.Omega.{arith}
 use Rattle.mmc_run.proofs.Running.{running_starts, running_ends, running_leaves, running_room, place_before, recent_fits, place_fair, running_next}
 use Rattle.mmc_run.proofs.run.Goals as goal
