@@ -35,7 +35,7 @@ pub fn multi_mmc(symbols: &[u8], bits_per_symbol: u8, counters: &mut [u32]) -> A
     if number != DONE {
         return refused_on(symbols, number);
     }
-    bits_estimate(Source::new(symbols, bits_per_symbol as u32), counters)
+    bits_estimate(Source::new(symbols, bits_per_symbol), counters)
 }
 
 // The literal track, which has no width: a sample is a symbol. The symbols are translated into `out`; the two numbers of at

@@ -40,11 +40,11 @@ pub new-requires : goal.new-requires
 new-requires c =
     let done : c.literal_refusal-number.result ≡ 0 = c.if-number-ne-DONE.false in
     let ran : Taken c.args.symbols.now c.args.out.now c.args.space.now = literal_taken _ _ _ c.literal_refusal-number.ensures done in
-    let translation : Translation c.args.symbols.now c.args.out.now c.value_sorted_alphabet-alphabet.result c.value_sorted_alphabet-alphabet.new.out = record {
+    let translation : Translation c.args.symbols.now c.args.out.now c.from-alphabet.result c.value_sorted_alphabet-found.new.out = record {
       fits = ran.fits;
       room = ran.room;
-      answers = c.value_sorted_alphabet-alphabet.ensures.0;
-      leaves = c.value_sorted_alphabet-alphabet.ensures.1;
+      answers = c.from-alphabet.ensures ∙ c.value_sorted_alphabet-found.ensures.0;
+      leaves = c.value_sorted_alphabet-found.ensures.1;
     } in
     source_is translation
 
