@@ -14,15 +14,19 @@ const HEADER: usize = 24;
 const STORED: u8 = 255;
 
 #[derive(Clone, Copy)]
+enum Capture<'a> {
+    Stored(&'a [u8]),
+    ByRule(Rule),
+}
+
+#[derive(Clone, Copy)]
 pub struct Case<'a> {
     // the kind's number
     pub kind: u8,
     pub width: u8,
     pub checks: u8,
-    // of a capture that is not stored
-    rule: Option<Rule>,
     pub words: &'a [u8],
-    stored: &'a [u8],
+    capture: Capture<'a>,
     pub expected: &'a [u8],
 }
 
@@ -41,22 +45,23 @@ impl<'a> Case<'a> {
         let seed = four(&mut header)?;
         let expected = four(&mut header)? as usize;
         let words = list.split_off(..four(&mut header)? as usize * 8)?;
-        let is_stored = shape == STORED;
-        let stored = list.split_off(..if is_stored { length } else { 0 })?;
-        let expected = list.split_off(..expected)?;
-        let rule = Rule {
-            shape: shape.into(),
-            values: u64::from(values),
-            length,
-            seed,
+        let capture = if shape == STORED {
+            Capture::Stored(list.split_off(..length)?)
+        } else {
+            Capture::ByRule(Rule {
+                shape: shape.into(),
+                values: u64::from(values),
+                length,
+                seed,
+            })
         };
+        let expected = list.split_off(..expected)?;
         Some(Case {
             kind,
             width,
             checks,
-            rule: if is_stored { None } else { Some(rule) },
             words,
-            stored,
+            capture,
             expected,
         })
     }
@@ -72,9 +77,9 @@ impl<'a> Case<'a> {
         let Some(kind) = kind else {
             return Verdict::LeftOut;
         };
-        match self.rule {
-            None => self.compare(kind, self.stored),
-            Some(rule) => self.by_rule(kind, rule),
+        match self.capture {
+            Capture::Stored(capture) => self.compare(kind, capture),
+            Capture::ByRule(rule) => self.by_rule(kind, rule),
         }
     }
 
