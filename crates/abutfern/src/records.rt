@@ -5,7 +5,7 @@ ghost use Rattle.record.specs.Record.{reading_of, written_in, written_of};
 ghost use Rattle.rows.specs.Rows.{record_at, row_of};
 
 use answer::Answer;
-use record::flag::{flagged, held_by};
+use record::flag::held_by;
 use record::{Flagged, Written};
 use rows::Row;
 
@@ -20,8 +20,7 @@ pub extern "C" fn abutfern_write_record(
     ensures { (result ≡ written_of (held_by answer told) kind out.old) ×
         (out.new ≡ written_in (held_by answer told) kind out.old) }
 {
-    let held = held_by(answer, told);
-    record::write::write_record(held, kind, out)
+    record::write::write_record(held_by(answer, told), kind, out).into()
 }
 
 // Reads the record at the start, whatever follows it.
@@ -29,7 +28,7 @@ pub extern "C" fn abutfern_write_record(
 pub extern "C" fn abutfern_read_record(bytes: &[u8]) -> Flagged
     ensures { result ≡ flagged_of (reading_of bytes.now) }
 {
-    flagged(record::read::read_record(bytes))
+    record::read::read_record(bytes).into()
 }
 
 // Reads the records that stand one after the other, up to the first bad one.
@@ -37,7 +36,7 @@ pub extern "C" fn abutfern_read_record(bytes: &[u8]) -> Flagged
 pub extern "C" fn abutfern_read_records(bytes: &[u8]) -> Row
     ensures { result ≡ row_of bytes.now }
 {
-    rows::read_records(bytes)
+    rows::read_records(bytes).into()
 }
 
 // The record of a place, counted from 0.
@@ -45,5 +44,5 @@ pub extern "C" fn abutfern_read_records(bytes: &[u8]) -> Row
 pub extern "C" fn abutfern_record_at(bytes: &[u8], place: u64) -> Flagged
     ensures { result ≡ flagged_of (record_at bytes.now place) }
 {
-    flagged(rows::record_at(bytes, place))
+    rows::record_at(bytes, place).into()
 }

@@ -1,6 +1,6 @@
 -- What the fields of a kind are, by whether it tells who predicted, and so how long its record is and what the answer in it is.
 -- By the two cases of that test. Assumes nothing.
-use mathlib.Core.Path.{◌≡◌, refl, ap}
+use mathlib.Core.Path.{◌≡◌, refl, sym, ap, ◌∙◌}
 use mathlib.Core.Bool.{Bool, true, false, cond, ◌||◌}
 use mathlib.Core.List.{List, ◌++◌}
 use mathlib.Core.Logic.{◌⊎◌, inl, inr}
@@ -11,6 +11,9 @@ use lib.Dec.{eqb}
 use Rattle.answer.specs.declared.Answer.{Answer}
 use Rattle.envelope.specs.Envelope.{Field, body_size, body_start, following, kind_bytes, length_bytes, record_size, values_at}
 use Rattle.envelope.specs.Little.{number_at}
+use Rattle.fields.specs.Kind.{kind_number}
+use Rattle.fields.specs.declared.kind.Kind.{Kind}
+use Rattle.fields.specs.declared.kind.Kind.TheVariants.{Unnamed, Named}
 use Rattle.fields.specs.Fields.{answer_fields, answer_in, answer_kind, answer_of, answer_size, fields_of, is_kind, named_kind, tells, winner_fields}
 
 -- the kinds that there are
@@ -81,3 +84,26 @@ module _ (bytes : List ℕ) where
       by : (b : Bool) → answer_by b ≡ answer_of (values_at (fields_by b) body_start bytes)
       by true = refl
       by false = refl
+
+-- ---- the kinds as the code has them
+pub least_bytes : (kind : Kind) → 61 ≤ answer_size (kind_number kind)
+unfolding body_size
+least_bytes kind = least (kind_number kind)
+
+pub telling_bytes : (kind : Kind) → tells (kind_number kind) ≡ true → 66 ≤ answer_size (kind_number kind)
+unfolding body_size
+telling_bytes kind e = omega (arith, size_by (kind_number kind) e)
+
+pub unnamed_tells : {kind : Kind} → kind ≡ Unnamed → tells (kind_number kind) ≡ false
+unfolding tells
+unnamed_tells e = ap (λ (k : Kind). tells (kind_number k)) e
+
+pub named_tells : {kind : Kind} → kind ≡ Named → tells (kind_number kind) ≡ true
+unfolding tells
+named_tells e = ap (λ (k : Kind). tells (kind_number k)) e
+
+pub named_bytes : (kind : Kind) → kind ≡ Named → 66 ≤ answer_size (kind_number kind)
+named_bytes kind e = telling_bytes kind (named_tells e)
+
+pub answer_told : (bytes : List ℕ) (kind : Kind) {b : Bool} → tells (kind_number kind) ≡ b → answer_by bytes b ≡ answer_in (kind_number kind) bytes
+answer_told bytes kind e = ap (answer_by bytes) (sym e) ∙ answer_by_lem bytes (kind_number kind)

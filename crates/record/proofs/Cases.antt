@@ -15,9 +15,7 @@ use Rattle.envelope.proofs.Envelope.{framed_is, framed_long, record_length}
 use Rattle.fields.specs.Fields.{answer_kind, answer_record, answer_size, fields_of, is_kind, named_kind}
 use Rattle.fields.proofs.Telling.{kind_is}
 use Rattle.recordable.specs.declared.Held.{Held}
-use Rattle.record.specs.Record.{answer_held, extent_of, framed_as, held_in, holds, kind_in, not_read, reading_of, was_read, write_number, written_in, written_of}
-use Rattle.record.specs.declared.Extent.{Extent}
-use Rattle.record.specs.declared.Reading.{Reading}
+use Rattle.record.specs.Record.{Extent, Reading, answer_held, extent_of, framed_as, held_in, holds, kind_in, not_read, reading_of, was_read, write_number, written_in, written_of}
 
 -- how many bytes a record takes
 pub answer_length : (kind : ℕ) (a : Answer) → length (answer_record kind a) ≡ answer_size kind

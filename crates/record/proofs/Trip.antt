@@ -14,11 +14,10 @@ use Rattle.envelope.specs.Envelope.{body_start, put_at_start}
 use Rattle.envelope.specs.Little.{Bytes}
 use Rattle.fields.proofs.Telling.{kind_small, short}
 use Rattle.fields.specs.Fields.{answer_in, answer_kind, answer_of, answer_record, answer_size, fields_of, is_kind, named_kind, tells}
-use Rattle.record.specs.Record.{Doubles, answer_held, framed_as, held_in, holds, kept, kind_in, reading_of, was_read, write_number, written_in}
+use Rattle.record.specs.Record.{Reading, Doubles, answer_held, framed_as, held_in, holds, kept, kind_in, reading_of, was_read, write_number, written_in}
 use Rattle.recordable.specs.Recordable.{holdable, recordable}
 use Rattle.recordable.specs.declared.Held.{Held}
 use Rattle.recordable.specs.declared.Held.TheVariants.{Unnamed, Named}
-use Rattle.record.specs.declared.Reading.{Reading}
 use Rattle.recordable.proofs.Bounds.{recordable_bounds}
 use Rattle.record.proofs.Cases.{
   by_tests,

@@ -3,9 +3,8 @@ use Rattle.std.specs.Prelude.{ℕ, cond, eqb}
 use Rattle.answer.specs.declared.Answer.{Answer}
 use Rattle.recordable.specs.declared.Held.{Held}
 use Rattle.recordable.specs.declared.Held.TheVariants.{Unnamed, Named}
-use Rattle.record.specs.Record.{answer_held}
+use Rattle.record.specs.Record.{Reading, answer_held}
 use Rattle.record.specs.declared.Flagged.{Flagged}
-use Rattle.record.specs.declared.Reading.{Reading}
 
 -- an answer and its flag, as a record holds it
 abbrev pub held_by : Answer → ℕ → Held

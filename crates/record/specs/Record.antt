@@ -10,8 +10,6 @@ use Rattle.fields.specs.Fields.{answer_in, answer_kind, answer_record, answer_si
 use Rattle.recordable.specs.Recordable.{held_as, holdable}
 use Rattle.recordable.specs.declared.Held.{Held}
 use Rattle.recordable.specs.declared.Held.TheVariants.{Unnamed, Named}
-use Rattle.record.specs.declared.Extent.{Extent}
-use Rattle.record.specs.declared.Reading.{Reading}
 use Rattle.record.specs.declared.Written.{Written}
 
 -- the answer that is held, named or not
@@ -50,6 +48,17 @@ kind_in bytes = cond (framed_as answer_kind bytes) answer_kind (cond (framed_as 
 -- what a record of a kind at the start holds: "a kind 1 result with both marked absent and not as 0"
 unfoldable pub held_in : ℕ → List ℕ → Held
 held_in kind bytes = held_as (tells kind) (answer_in kind bytes)
+
+-- what a reader says: the answer number, how many bytes the record takes, and what it holds
+pub record Reading : Type 0 where
+  pub number : ℕ
+  pub size : ℕ
+  pub held : Held
+
+-- the same without what it holds
+pub record Extent : Type 0 where
+  pub number : ℕ
+  pub size : ℕ
 
 -- nothing was read: "every field of the answer as in a refusal", and who predicted is absent
 abbrev pub not_read : ℕ → Reading

@@ -5,10 +5,17 @@ pub mod flag;
 pub mod read;
 pub mod write;
 
-use answer::Answer;
+use answer::{Answer, DONE, Refusal};
 use recordable::Held;
 
-// What a writer says: the answer number, and how many bytes the record takes, 0 where it is refused.
+// A record that was read: how many bytes it takes, and what it holds.
+#[derive(Clone, Copy)]
+pub struct Reading {
+    pub size: usize,
+    pub held: Held,
+}
+
+// What a writer says, as C has it: the answer number, and how many bytes the record takes, 0 where it is refused.
 #[repr(C)]
 #[derive(Clone, Copy)]
 pub struct Written {
@@ -16,23 +23,28 @@ pub struct Written {
     pub size: u64,
 }
 
-// Whether a record can be read, by its answer number, and how many bytes it takes, 0 where it cannot.
-#[derive(Clone, Copy)]
-pub struct Extent {
-    pub number: u64,
-    pub size: u64,
+impl From<Result<usize, Refusal>> for Written {
+    ghost use Rattle.std.specs.Prelude.{◌≡◌};
+    ghost use Rattle.record.specs.Told.{written_told};
+
+    ghost from_gives = { λ found written. written ≡ written_told found };
+
+    fn from(found: Result<usize, Refusal>) -> Written {
+        match found {
+            Ok(size) => Written {
+                number: DONE,
+                size: size as u64,
+            },
+            Err(refusal) => Written {
+                number: refusal.number(),
+                size: 0,
+            },
+        }
+    }
 }
 
-// What a reader says: the answer number, how many bytes the record takes, and what it holds; 0 and a refusal of that number
-// where it is refused.
-#[derive(Clone, Copy)]
-pub struct Reading {
-    pub number: u64,
-    pub size: u64,
-    pub held: Held,
-}
-
-// The same with a flag beside the answer: 1 where the record tells who predicted, 0 where that is absent.
+// What a reader says, as C has it: the answer number, how many bytes the record takes, a flag, 1 where it tells who predicted
+// and 0 where that is absent, and the answer; where it is refused, 0, 0 and the answer of the refusal.
 #[repr(C)]
 #[derive(Clone, Copy)]
 pub struct Flagged {

@@ -1,87 +1,79 @@
 // The reader of a record.
-ghost use Rattle.std.specs.Prelude.{◌≡◌, ◌≤◌, length};
+ghost use Rattle.std.specs.Prelude.{◌≡◌, ◌≤◌, IfOk, length};
+ghost use Rattle.answer.specs.Results.{number_in};
 ghost use Rattle.fields.specs.Fields.{answer_size};
-ghost use Rattle.record.specs.Record.{extent_of, held_in, kind_in, not_read, reading_of};
+ghost use Rattle.fields.specs.Kind.{kind_number};
+ghost use Rattle.record.specs.Record.{extent_of, framed_as, held_in, kind_in, reading_of};
+ghost use Rattle.record.specs.Told.{extent_told, kind_told, reading_told};
 
-use crate::{Extent, Reading};
-use answer::{BAD_ANSWER, BAD_FRAME, DONE, refused_as};
+use crate::Reading;
+use answer::Refusal;
 use envelope::is_framed;
-use fields::{ANSWER_KIND, NAMED_KIND, answer_in, following_of, is_kind, size_of, tells_winner};
+use fields::{Kind, answer_in};
 use recordable::{Held, is_readable};
 
-// The kind of the record at the start, and 0, which is no kind, where none stands there.
-fn kind_in(bytes: &[u8]) -> u64
-    ensures { result ≡ kind_in bytes.now }
+// Whether a whole record of a kind stands at the start.
+fn is_framed_as(bytes: &[u8], kind: Kind) -> bool
+    ensures { result ≡ framed_as (kind_number kind) bytes.now }
 {
-    if is_framed(bytes, ANSWER_KIND, following_of(ANSWER_KIND)) {
-        return ANSWER_KIND;
+    is_framed(bytes, kind.into(), kind.following())
+}
+
+// The kind of the record at the start.
+#[tactic(auto, unfolding(crate::specs::Record::kind_in))]
+fn kind_in(bytes: &[u8]) -> Option<Kind>
+    ensures { kind_told result ≡ kind_in bytes.now }
+{
+    if is_framed_as(bytes, Kind::Unnamed) {
+        Some(Kind::Unnamed)
+    } else if is_framed_as(bytes, Kind::Named) {
+        Some(Kind::Named)
+    } else {
+        None
     }
-    if is_framed(bytes, NAMED_KIND, following_of(NAMED_KIND)) {
-        return NAMED_KIND;
+}
+
+// The kind of the record at the start, where that can be read. Refuses with 8, then 9.
+fn readable(bytes: &[u8]) -> Result<Kind, Refusal>
+    ensures number { number_in result ≡ (reading_of bytes.now).number }
+    ensures kind { IfOk result (λ kind. kind_number kind ≡ kind_in bytes.now) }
+{
+    let kind = kind_in(bytes).ok_or(Refusal::BadFrame)?;
+    if is_readable(answer_in(bytes, kind), kind.tells_winner()) {
+        Ok(kind)
+    } else {
+        Err(Refusal::BadAnswer)
     }
-    0
 }
 
 // What the record of a kind at the start holds. Who predicted is absent where the kind does not tell it.
-fn held_in(bytes: &[u8], kind: u64) -> Held
-    requires { answer_size kind ≤ length bytes.now }
-    ensures { result ≡ held_in kind bytes.now }
+#[tactic(auto, using(fields::proofs::Telling::unnamed_tells, fields::proofs::Telling::named_tells), unfolding(crate::specs::Record::held_in))]
+fn held_in(bytes: &[u8], kind: Kind) -> Held
+    requires { answer_size (kind_number kind) ≤ length bytes.now }
+    ensures { result ≡ held_in (kind_number kind) bytes.now }
 {
     let answer = answer_in(bytes, kind);
-    if tells_winner(kind) {
-        return Held::Named(answer);
-    }
-    Held::Unnamed(answer)
-}
-
-// A refusal: nothing was read, and who predicted is absent.
-fn not_read(number: u64) -> Reading
-    ensures { result ≡ not_read number }
-{
-    let answer = refused_as(number);
-    Reading {
-        number,
-        size: 0,
-        held: Held::Unnamed(answer),
+    match kind {
+        Kind::Unnamed => Held::Unnamed(answer),
+        Kind::Named => Held::Named(answer),
     }
 }
 
-// Whether the record at the start of the bytes can be read, and how many bytes it takes. Says 8, then 9.
-pub fn extent(bytes: &[u8]) -> Extent
-    ensures { result ≡ extent_of bytes.now }
+// How many bytes the record at the start takes, where it can be read. Refuses with 8, then 9.
+pub fn extent(bytes: &[u8]) -> Result<usize, Refusal>
+    ensures { extent_told result ≡ extent_of bytes.now }
 {
-    let kind = kind_in(bytes);
-    if !is_kind(kind) {
-        return Extent {
-            number: BAD_FRAME,
-            size: 0,
-        };
-    }
-    if is_readable(answer_in(bytes, kind), tells_winner(kind)) {
-        return Extent {
-            number: DONE,
-            size: size_of(kind),
-        };
-    }
-    Extent {
-        number: BAD_ANSWER,
-        size: 0,
-    }
+    let kind = readable(bytes)?;
+    Ok(kind.size())
 }
 
 // Reads the record at the start of the bytes, whatever follows it. Refuses with 8, then 9.
-pub fn read_record(bytes: &[u8]) -> Reading
-    ensures { result ≡ reading_of bytes.now }
+pub fn read_record(bytes: &[u8]) -> Result<Reading, Refusal>
+    ensures { reading_told result ≡ reading_of bytes.now }
 {
-    let extent = extent(bytes);
-    let number = extent.number;
-    if number != DONE {
-        return not_read(number);
-    }
-    let kind = kind_in(bytes);
-    Reading {
-        number,
-        size: extent.size,
+    let kind = readable(bytes)?;
+    Ok(Reading {
+        size: kind.size(),
         held: held_in(bytes, kind),
-    }
+    })
 }

@@ -13,9 +13,7 @@ use lib.ListN.{length, take, drop, length-drop}
 use lib.Seq.{take_all}
 use Rattle.answer.specs.Numbers.{done}
 use Rattle.fields.specs.Fields.{answer_size}
-use Rattle.record.specs.Record.{extent_of, kind_in, reading_of}
-use Rattle.record.specs.declared.Extent.{Extent}
-use Rattle.record.specs.declared.Reading.{Reading}
+use Rattle.record.specs.Record.{Extent, Reading, extent_of, kind_in, reading_of}
 use Rattle.record.proofs.Cases.{read_long, read_size, refused_size}
 use Rattle.rows.specs.Rows.{good_among, good_records, record_at, row_of, start_of}
 

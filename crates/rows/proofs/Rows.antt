@@ -11,8 +11,7 @@ use lib.ListN.{length, drop, get_or, length-append}
 use lib.Seq.{drop-append-add, drop-append_seam}
 use Rattle.answer.specs.Numbers.{done}
 use Rattle.fields.specs.Fields.{answer_size}
-use Rattle.record.specs.Record.{answer_held, extent_of, kept, reading_of, was_read}
-use Rattle.record.specs.declared.Reading.{Reading}
+use Rattle.record.specs.Record.{Reading, answer_held, extent_of, kept, reading_of, was_read}
 use Rattle.record.proofs.Cases.{answer_length}
 use Rattle.record.proofs.Trip.{written_reads}
 use Rattle.rows.specs.Rows.{AllGood, Good, Item, bytes_of, good_among, record_at, records_of, row_of, start_of}

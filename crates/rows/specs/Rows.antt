@@ -2,9 +2,8 @@
 use Rattle.std.specs.Prelude.{ℕ, zero, suc, ◌+◌, ◌≡◌, true, cond, List, [], ◌∷◌, ◌++◌, eqb, leb, length, drop}
 use Rattle.answer.specs.Numbers.{done}
 use Rattle.fields.specs.Fields.{answer_record, is_kind}
-use Rattle.record.specs.Record.{Doubles, answer_held, holds, reading_of}
+use Rattle.record.specs.Record.{Reading, Doubles, answer_held, holds, reading_of}
 use Rattle.recordable.specs.declared.Held.{Held}
-use Rattle.record.specs.declared.Reading.{Reading}
 use Rattle.rows.specs.declared.Row.{Row}
 
 -- the byte at which the record of a place starts, counted from 0. One that is not read takes no bytes, so nothing is read past a bad one.
