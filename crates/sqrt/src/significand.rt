@@ -1,4 +1,5 @@
-// A double above 0 by the digits of its significand.
+// A double above 0 by the digits of its significand. "Subnormals are scaled by the position of the leading one of the
+// fraction."
 ghost use Rattle.std.specs.Prelude.{◌≡◌, ◌-◌, ◌*◌, ◌^◌, ◌≤◌, ◌<◌};
 ghost use Rattle.std.specs.Float.Ieee.{size};
 ghost use Rattle.sqrt.specs.Inner.Steps.{units_of};
