@@ -10,7 +10,7 @@ use answer::Answer;
 pub extern "C" fn abutfern_multi_mcw(symbols: &[u8], bits_per_symbol: u8) -> Answer
     ensures { result ≡ mcw_bits symbols.now bits_per_symbol }
 {
-    multi_mcw::multi_mcw(symbols, bits_per_symbol)
+    multi_mcw::multi_mcw(symbols, bits_per_symbol).into()
 }
 
 // MultiMCW on symbols, translated into `out`.
@@ -19,7 +19,7 @@ pub extern "C" fn abutfern_multi_mcw_literal(symbols: &[u8], out: &mut [u8]) -> 
     ensures { (result ≡ mcw_literal symbols.now out.old) ×
         (out.new ≡ mcw_literal_output symbols.now out.old) }
 {
-    multi_mcw::multi_mcw_literal(symbols, out)
+    multi_mcw::multi_mcw_literal(symbols, out).into()
 }
 
 // MultiMMC on bits, in lent counters.

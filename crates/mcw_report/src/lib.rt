@@ -2,9 +2,10 @@
 #![tactic(auto)]
 
 ghost use Rattle.std.specs.Prelude.{◌≡◌};
+ghost use Rattle.answer.specs.Results.{rated_answer};
 ghost use Rattle.mcw_report.specs.Report.{report_of, report_output};
 
-use answer::{Answer, TOO_LONG};
+use answer::{Answer, Rated, Refusal};
 use std::io;
 
 // The largest number of symbols that is reported on.
@@ -14,11 +15,13 @@ pub const REPORT_LIMIT: usize = 16_384;
 const ROOM: usize = REPORT_LIMIT + 1;
 
 // The answer of the report. The symbols are translated into `out`.
-pub fn reported(symbols: &[u8], out: &mut [u8]) -> Answer
-    ensures { (result ≡ report_of symbols.now out.old) × (out.new ≡ report_output symbols.now out.old) }
+#[tactic(auto, unfolding(crate::specs::Report::report_of, crate::specs::Report::report_output))]
+pub fn reported(symbols: &[u8], out: &mut [u8]) -> Result<Rated, Refusal>
+    ensures answer { rated_answer result ≡ report_of symbols.now out.old }
+    ensures output { out.new ≡ report_output symbols.now out.old }
 {
     if REPORT_LIMIT < symbols.len() {
-        return answer::refused_as(TOO_LONG);
+        return Err(Refusal::TooLong);
     }
     multi_mcw::multi_mcw_literal(symbols, out)
 }
@@ -38,5 +41,5 @@ pub fn report(rt: &(impl Input + Print)) -> io::Result<()> {
     let mut input = rt.reader();
     let n = reading::fill(&mut input, &mut symbols)?;
     let mut out = [0; ROOM];
-    print(rt, reported(&symbols[..n], &mut out))
+    print(rt, reported(&symbols[..n], &mut out).into())
 }

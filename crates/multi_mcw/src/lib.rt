@@ -2,15 +2,14 @@
 #![tactic(auto)]
 
 ghost use Rattle.std.specs.Prelude.{◌≡◌, ◌≤◌, length};
+ghost use Rattle.answer.specs.Results.{rated_answer};
 ghost use Rattle.capture.specs.Limit.{symbol_limit};
 ghost use Rattle.mcw_bits.specs.Mcw.{outcome_of};
 ghost use Rattle.mcw_symbols.specs.Inner.Samples.{Samples};
-ghost use Rattle.multi_mcw.specs.Tracks.{literal_number, mcw_bits, mcw_literal, mcw_literal_output};
+ghost use Rattle.multi_mcw.specs.Tracks.{mcw_bits, mcw_literal, mcw_literal_output};
 
-use alphabet::Alphabet;
-use answer::{Answer, DONE, NOT_RUN, TOO_LONG, TOO_SHORT, refused_as};
-use capture::bits::SYMBOL_LIMIT;
-use capture::refusal::{bits_refusal, refused_on};
+use answer::{Rated, Refusal};
+use capture::refusal::{accept_bits, accept_symbols};
 use capture::source::Source;
 use dense::dense_alphabet;
 use mcw_bits::run::mcw_bits;
@@ -23,32 +22,13 @@ use rating::rate;
 pub const LEAST_SAMPLES: usize = FOURTH + 1;
 
 // The bitstring track.
-pub fn multi_mcw(symbols: &[u8], bits_per_symbol: u8) -> Answer
-    ensures { result ≡ mcw_bits symbols.now bits_per_symbol }
+#[tactic(auto, using(crate::proofs::Answers::bits_refused, crate::proofs::Answers::bits_many, crate::proofs::Answers::bits_ran))]
+pub fn multi_mcw(symbols: &[u8], bits_per_symbol: u8) -> Result<Rated, Refusal>
+    ensures { rated_answer result ≡ mcw_bits symbols.now bits_per_symbol }
 {
-    let number = bits_refusal(symbols, bits_per_symbol, LEAST_SAMPLES, false);
-    if number != DONE {
-        return refused_on(symbols, number);
-    }
-    let source = Source::new(symbols, bits_per_symbol);
-    let n = source.len();
-    let r = mcw_bits(source);
-    rate(r, (n - FIRST) as u64, 2).into()
-}
-
-// The number by which the literal track is refused, or 0.
-fn literal_refusal(symbols: &[u8], out: &[u8]) -> u64
-    ensures { result ≡ literal_number symbols.now out.now }
-{
-    if SYMBOL_LIMIT < symbols.len() {
-        TOO_LONG
-    } else if symbols.len() < LEAST_SAMPLES {
-        NOT_RUN
-    } else if out.len() < symbols.len() {
-        TOO_SHORT
-    } else {
-        DONE
-    }
+    let source = accept_bits(symbols, bits_per_symbol, LEAST_SAMPLES, false)?;
+    let n = source.len() - FIRST;
+    rate(mcw_bits(source), n as u64, 2)
 }
 
 // The race over k symbols numbered from 0; two values race as bits.
@@ -63,17 +43,13 @@ fn mcw_translated(s: &[u8], k: u64) -> Outcome
 }
 
 // The literal track, which has no width: a sample is a symbol. The symbols are translated into `out`.
-pub fn multi_mcw_literal(symbols: &[u8], out: &mut [u8]) -> Answer
-    ensures { (result ≡ mcw_literal symbols.now out.old)
+#[tactic(auto, using(crate::proofs::Answers::literal_refused, crate::proofs::Answers::literal_asks, crate::proofs::Answers::literal_ran))]
+pub fn multi_mcw_literal(symbols: &[u8], out: &mut [u8]) -> Result<Rated, Refusal>
+    ensures { (rated_answer result ≡ mcw_literal symbols.now out.old)
         × (out.new ≡ mcw_literal_output symbols.now out.old) }
 {
-    let number = literal_refusal(symbols, out);
-    if number != DONE {
-        return refused_as(number);
-    }
-    let n = symbols.len();
-    let found = dense_alphabet(symbols, out);
-    let alphabet = Alphabet::from(found);
-    let r = mcw_translated(&out[..n], alphabet.size);
-    rate(r, (n - FIRST) as u64, alphabet.size).into()
+    accept_symbols(symbols, LEAST_SAMPLES, out.len() < symbols.len())?;
+    let size = dense_alphabet(symbols, out)?;
+    let n = symbols.len() - FIRST;
+    rate(mcw_translated(&out[..symbols.len()], size), n as u64, size)
 }

@@ -120,13 +120,13 @@ fn prediction_estimate(mut words: &[u8], checks: u8) -> Option<bool> {
 
 fn multi_mcw(capture: &[u8], case: &Case) -> Option<bool> {
     let ours = multi_mcw::multi_mcw(capture, case.width);
-    same_answer(ours, case.words, case.checks)
+    same_answer(ours.into(), case.words, case.checks)
 }
 
 fn multi_mcw_literal(capture: &[u8], case: &Case) -> Option<bool> {
     let mut out = [0; LONGEST];
     let ours = multi_mcw::multi_mcw_literal(capture, &mut out);
-    same_answer(ours, case.words, case.checks)
+    same_answer(ours.into(), case.words, case.checks)
 }
 
 fn multi_mmc(capture: &[u8], case: &Case) -> Option<bool> {
