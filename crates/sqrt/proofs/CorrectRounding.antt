@@ -209,7 +209,7 @@ double_of q k lo hi l = go (eq-or-lt_of_le hi)
     )
 
 -- a positive double's `units_of`, times 2 ^ 1074, as m * 4 ^ (26 + k)
-abbrev pub Even : ℕ → Type 0
+abbrev Even : ℕ → Type 0
 Even n = (m : ℕ) × (k : ℕ) × (n ≡ m * 4 ^ (26 + k)) × (2 ^ 52 ≤ m) × (m < 2 ^ 54) × (k ≤ 2000)
 
 even_of : (q e : ℕ) → 2 ^ 52 ≤ q → q < 2 ^ 53 → 52 ≤ e → e ≤ 4000 → Even (q * 2 ^ e)
@@ -219,7 +219,7 @@ even_of q e a b c d =
     let z : 26 + (e / 2 - 26) ≡ e / 2 = omega arith in
     (m, e / 2 - 26, sym (split_pow q e) ∙ ap (λ (x : ℕ). m * 4 ^ x) (sym z), omega arith, omega arith, omega arith)
 
-pub even_pattern : (b : ℕ) → 0 < b → b < 0x7ff0_0000_0000_0000 → Even (units_of b * 2 ^ 1074)
+even_pattern : (b : ℕ) → 0 < b → b < 0x7ff0_0000_0000_0000 → Even (units_of b * 2 ^ 1074)
 even_pattern b P l = go (eqb (b / 2 ^ 52) 0) (eqb→eq (b / 2 ^ 52) 0) (λ t z. subst (λ (x : ℕ). T (not (eqb x 0))) z t)
   where
     go : (s : Bool) → (T s → b / 2 ^ 52 ≡ 0) → (T (not s) → b / 2 ^ 52 ≡ 0 → ⊥) →

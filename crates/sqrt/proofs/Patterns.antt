@@ -5,14 +5,15 @@ use Prim.Native.Nat.{ℕ, zero, suc, ◌+◌, ◌-◌, ◌*◌, ◌/◌, ◌%◌
 use native.Mathlib.Nat.{le_trans, le_of_eq, lt_of_le_of_lt, eq-or-lt_of_le, mul-le-mul_right, mul-div_cancel, mul-pos, mul-one, suc-mul}
 use native.Mathlib.Nat.{lt-suc_self, zero-add, add_comm, mod-eq_of_lt, not-le_of_lt}
 use native.Mathlib.Omega.{arith}
-use mathlib.Core.Bool.{Bool, true, false, cond, true≢false}
+use mathlib.Core.Bool.{Bool, true, false, not, cond, true≢false}
 use lib.Dec.{T, leb, eqb, leb→le, eqb→eq, not_T}
 use lib.Pow.{pow-add, pow_pos, pow-lt, shl_lt}
-use lib.Ieee.{Float, nan, inf, fin, Format, binary64, prec, low, down, hid, size, odd, of_fields, of_bits, to_bits}
-use lib.Ieee.Bits.{is_false, cond_no}
+use lib.Ieee.{Float, nan, inf, fin, Format, binary64, prec, low, down, hid, size, odd, of_fields, of_bits, to_bits, nan_bits}
+use lib.Ieee.Bits.{is_false, cond_no, nan_bits_is}
 use lib.Ieee.Fits.{down_pos}
 use lib.Ieee.Exact.{HasValue, odd_sign}
 use borrow.Author.Tests.{eq-eqb, ne_eqb}
+use Rattle.rounding.proofs.Numbers.{value_no_nan}
 use Rattle.sqrt.specs.Inner.Steps.{units_of}
 use Rattle.sqrt.proofs.Powers.{joined}
 use Rattle.sqrt.proofs.Shift.{size_exact}
@@ -97,6 +98,9 @@ to_bits_value f (fin true m e) a h = absurd (true≢false h.0)
 to_bits_value f (fin false m e) a h =
     ap (λ (n : ℕ). 0 + (size n - prec f) * hid f + n / 2 ^ (size n - prec f)) (ap (λ (x : ℕ). x / down e) h.1 ∙ mul-div_cancel a (down_pos e))
     ∙ ap (λ (x : ℕ). x + a / 2 ^ (size a - prec f)) (zero-add ((size a - prec f) * hid f))
+
+pub finite_no_nan : (b : ℕ) → b < 0x7ff0_0000_0000_0000 → T (not (nan_bits binary64 b))
+finite_no_nan b l = subst (λ (v : Bool). T (not v)) (sym (nan_bits_is binary64 b)) (value_no_nan (of_bits binary64 b) false (units_of b) (2 ^ 1074) (value_of b l))
 
 -- with z the size, and d of its digits dropped
 bits_at : (q k z d p : ℕ) → size (q * 2 ^ k) ≡ z → z - 53 ≡ d → q * 2 ^ k ≡ p * 2 ^ d →

@@ -27,6 +27,11 @@ split_pow q e =
 pub one_or_two : (q e : ℕ) → (q ≤ q * (1 + e % 2)) × (q * (1 + e % 2) ≤ q * 2)
 one_or_two q e = (le_trans (le_of_eq (sym (mul-one q))) (mul-le-mul_left q (omega arith)), mul-le-mul_left q (omega arith))
 
+-- digits that stand for the n of units_of stand for the n * 2 ^ 1074 of a root
+pub in_units : (n q place : ℕ) → n * 2 ^ 52 ≡ q * 2 ^ place → q * 2 ^ (place + 1022) ≡ n * 2 ^ 1074
+in_units n q place e =
+    sym (joined q place 1022 (place + 1022) refl) ∙ ap (λ (x : ℕ). x * 2 ^ 1022) (sym e) ∙ joined n 52 1022 1074 refl
+
 -- a significand with its leading one, in the units of a root
 pub high_side : (q f : ℕ) → (f ≡ 0 → ⊥) → q * 2 ^ (f + 1073) ≡ q * 2 ^ (f - 1) * 2 ^ 1074
 high_side q f h =

@@ -10,11 +10,8 @@ use lib.Dec.{T, leb, leb→le, nleb→lt}
 use lib.Pow.{pow_pos}
 use lib.Ieee.{size}
 use lib.Ieee.Digits.{size-lt}
+use Rattle.sqrt.specs.Inner.Steps.{IsRoot}
 use Rattle.sqrt.specs.Root.{root_in, root}
-
--- r is the whole part of √n
-abbrev pub IsRoot : ℕ → ℕ → Type 0
-IsRoot n r = (r * r ≤ n) × (n < (r + 1) * (r + 1))
 
 pub sq_suc : (a : ℕ) → (a + 1) * (a + 1) ≡ a * a + 2 * a + 1
 sq_suc a =

@@ -4,14 +4,19 @@ use mathlib.Core.Path.{◌≡◌, sym, ap, ◌∙◌, subst}
 use Prim.Native.Nat.{ℕ, suc, ◌+◌, ◌-◌, ◌*◌, ◌/◌, ◌^◌, ◌≤◌, ◌<◌}
 use native.Mathlib.Nat.{le_trans, le_of_eq, lt_of_lt_of_le, lt_of_le_of_lt, mul_assoc, mul-le-mul_right, mul-lt-mul_of_pos_right, mul-div_cancel, mul-le-mul}
 use native.Mathlib.Omega.{arith}
-use mathlib.Core.Bool.{false}
-use lib.Dec.{lit<}
+use mathlib.Core.Bool.{false, not}
+use lib.Dec.{T, ltb, lit<}
 use lib.Pow.{pow-add, pow_mono, pow-lt}
-use lib.Ieee.{binary64, size, units}
+use lib.Ieee.{Float, inf, binary64, size, odd, units, fits, is_nan, to_bits}
+use lib.Ieee.Fits.{odd-fits, cond-fits, inf-fits}
+use lib.Ieee.Exact.{HasValue, units_val}
 use Rattle.sqrt.specs.Root.{root}
 use Rattle.sqrt.specs.Sqrt.{rounded}
+use Rattle.sqrt.specs.Inner.Steps.{Rooted}
 use Rattle.sqrt.proofs.Roots.{root_is, sq_lt_back, sq_pow, four_pos}
 use Rattle.sqrt.proofs.Shift.{size_exact}
+use Rattle.rounding.proofs.Numbers.{value_no_nan}
+use Rattle.sqrt.proofs.Patterns.{to_bits_value, bits_of_lem}
 
 -- the root of what lies between two squares
 root_lt : (n b : ℕ) → n < b * b → root n < b
@@ -68,5 +73,29 @@ module _ (m : ℕ) (lo : 2 ^ 52 ≤ m) (hi : m < 2 ^ 54) where
 
 -- ---- together
 
+units_fits : (q k : ℕ) → q ≤ 2 ^ 53 → q * 2 ^ k < 2 ^ 2098 → T (fits binary64 (units binary64 false q k))
+unfolding units
+units_fits q k h l =
+    cond-fits binary64 (ltb (q * 2 ^ k) (2 ^ 2098)) (odd 54 false q k 1074) (inf false)
+    (odd-fits binary64 54 false q k (lt_of_le_of_lt h (lit< tt)) h l) (inf-fits binary64 false)
+
 pub below_top : (q k : ℕ) → q ≤ 2 ^ 53 → k ≤ 2000 → q * 2 ^ k < 2 ^ 2098
 below_top q k h l = lt_of_le_of_lt (mul-le-mul h (pow_mono l)) (subst (λ (x : ℕ). x < 2 ^ 2098) (pow-add 2 53 2000) (pow-lt {i = 2053} {j = 2098} (lit< tt)))
+
+rooted_at : (m k : ℕ) → 2 ^ 52 ≤ m → m < 2 ^ 54 → k ≤ 2000 → Rooted (m * 4 ^ (26 + k)) (k * 2 ^ 52 + (root (m * 2 ^ 54) + 1) / 2)
+rooted_at m k lo hi l =
+    let q = (root (m * 2 ^ 54) + 1) / 2 in
+    let s = sig_in m lo hi in
+    let t : q * 2 ^ k < 2 ^ 2098 = below_top q k s.1 l in
+    let e : rounded binary64 (m * 4 ^ (26 + k)) ≡ units binary64 false q k = rounded_is m lo hi k in
+    let v : HasValue (units binary64 false q k) false (q * 2 ^ k) (2 ^ 1074) = units_val binary64 false q k t in
+    record {
+      is = sym (bits_of_lem q k s.0 s.1) ∙ sym (to_bits_value binary64 (units binary64 false q k) (q * 2 ^ k) v) ∙ ap (to_bits binary64) (sym e);
+      held = subst (λ (x : Float). T (fits binary64 x)) (sym e) (units_fits q k s.1 t);
+      no_nan = subst (λ (x : Float). T (not (is_nan x))) (sym e) (value_no_nan (units binary64 false q k) false (q * 2 ^ k) (2 ^ 1074) v);
+    }
+
+pub rooted : (m h : ℕ) → 2 ^ 52 ≤ m → m < 2 ^ 54 → 26 ≤ h → h ≤ 2000 → Rooted (m * 4 ^ h) ((h - 26) * 2 ^ 52 + (root (m * 2 ^ 54) + 1) / 2)
+rooted m h lo hi a b =
+    let e : 26 + (h - 26) ≡ h = omega arith in
+    subst (λ (x : ℕ). Rooted (m * 4 ^ x) ((h - 26) * 2 ^ 52 + (root (m * 2 ^ 54) + 1) / 2)) e (rooted_at m (h - 26) lo hi (omega arith))

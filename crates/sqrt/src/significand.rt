@@ -1,5 +1,4 @@
-// A double above 0 by the digits of its significand. "Subnormals are scaled by the position of the leading one of the
-// fraction."
+// A double above 0 by the digits of its significand.
 ghost use Rattle.std.specs.Prelude.{◌≡◌, ◌-◌, ◌*◌, ◌^◌, ◌≤◌, ◌<◌};
 ghost use Rattle.std.specs.Float.Ieee.{size};
 ghost use Rattle.sqrt.specs.Inner.Steps.{units_of};
