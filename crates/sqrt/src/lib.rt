@@ -1,3 +1,4 @@
+// Kept: the root is found here in whole numbers and not by std's f64::sqrt, an operation of the machine that would be trusted anew; document 01 names this form.
 // The square root of a double: "rounded correctly for every double (negative or not a number: not a number;
 // negative zero and infinity: itself). Subnormals are scaled by the position of the leading one of the fraction."
 #![tactic(auto)]
