@@ -2,7 +2,7 @@
 ghost use Rattle.std.specs.Prelude.{◌<◌, IfSome, length};
 
 use crate::captures::{LONGEST, Rule};
-use crate::compare;
+use crate::compare::Comparison;
 use crate::kind::Kind;
 use crate::numbers::{byte, four};
 use crate::tally::Verdict;
@@ -23,11 +23,11 @@ enum Capture<'a> {
 pub struct Case<'a> {
     // the kind's number
     pub kind: u8,
-    pub width: u8,
-    pub checks: u8,
-    pub words: &'a [u8],
+    width: u8,
+    checks: u8,
+    words: &'a [u8],
     capture: Capture<'a>,
-    pub expected: &'a [u8],
+    expected: &'a [u8],
 }
 
 impl<'a> Case<'a> {
@@ -95,6 +95,13 @@ impl<'a> Case<'a> {
     }
 
     fn compare(&self, kind: Kind, capture: &[u8]) -> Verdict {
-        Verdict::from(compare::agrees(kind, self, capture).unwrap_or(false))
+        let comparison = Comparison {
+            capture,
+            width: self.width,
+            checks: self.checks,
+            words: self.words,
+            expected: self.expected,
+        };
+        Verdict::from(comparison.agrees(kind).unwrap_or(false))
     }
 }

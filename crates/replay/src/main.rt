@@ -22,6 +22,7 @@ const ROOM: u64 = 524_288;
 // Counts every case of the list, up to its end or to a case that it ends within, which is none.
 fn replay(list: &[u8], tally: &mut Tally) -> Option<()> {
     let mut rest = list;
+    // Kept: (d) cases differ in length, and each is taken off the rest.
     while !rest.is_empty() {
         let case = Case::split_off(&mut rest)?;
         tally.count(case.kind, case.verdict());

@@ -33,27 +33,21 @@ pub struct Tally {
 }
 
 impl Tally {
-    fn compared(&mut self, number: u8) {
+    fn add(&mut self, number: u8, compared: u64, differ: u64) {
         if let Some(row) = self.rows.get_mut(usize::from(number)) {
-            row.compared = row.compared.saturating_add(1);
-        }
-    }
-
-    fn differs(&mut self, number: u8) {
-        if let Some(row) = self.rows.get_mut(usize::from(number)) {
-            row.differ = row.differ.saturating_add(1);
+            row.compared = row.compared.saturating_add(compared);
+            row.differ = row.differ.saturating_add(differ);
         }
     }
 
     // Counts a case of a kind's number.
     pub fn count(&mut self, number: u8, verdict: Verdict) {
         match verdict {
-            Verdict::LeftOut => self.compared(0),
-            Verdict::Agrees => self.compared(number),
+            Verdict::LeftOut => self.add(0, 1, 0),
+            Verdict::Agrees => self.add(number, 1, 0),
             Verdict::Differs => {
-                self.compared(number);
-                self.differs(number);
-                self.differs(0);
+                self.add(number, 1, 1);
+                self.add(0, 0, 1);
             }
         }
     }
