@@ -76,7 +76,7 @@ rated_tells (Ok r) = refl
 rated_tells (Err e) = held_kept _ e
 
 -- a record with no room for a place
-plain_kept : {A : Type 0} (x : A) (e : Refusal) → (number_of e ≡ too_wide → ⊥) → held x (number_of e) 0 ≡ Err e
+pub plain_kept : {A : Type 0} (x : A) (e : Refusal) → (number_of e ≡ too_wide → ⊥) → held x (number_of e) 0 ≡ Err e
 plain_kept x TooLong n = refl
 plain_kept x TooShort n = refl
 plain_kept x (TooWide place) n = absurd (n refl)

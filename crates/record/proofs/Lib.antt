@@ -2,3 +2,4 @@ pub mod Cases
 pub mod Kept
 pub mod Trip
 pub mod Results
+pub mod Told

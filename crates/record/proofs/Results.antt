@@ -67,11 +67,16 @@ other_size n h = size_by (kind_number Unnamed) refl ∙ sym (size_by n (by (eqb 
     by false b e = e
     by true b e = absurd (cc e)
 
-pub asked_size : (asked : Result Kind Refusal) (n : ℕ) →
+asked_size : (asked : Result Kind Refusal) (n : ℕ) →
     MatchResult asked (λ kind. kind_number kind ≡ n) (λ e. (e ≡ BadFrame) × (is_kind n ≡ false)) →
     answer_size (kind_number (result_unwrap_or asked Unnamed)) ≡ answer_size n
 asked_size (Ok kind) n h = ap answer_size h
 asked_size (Err e) n h = other_size n h.1
+
+pub size_asked : (asked : Result Kind Refusal) (n : ℕ) {kind : Kind} {size : ℕ} →
+    MatchResult asked (λ kind. kind_number kind ≡ n) (λ e. (e ≡ BadFrame) × (is_kind n ≡ false)) → kind ≡ result_unwrap_or asked Unnamed →
+    size ≡ answer_size (kind_number kind) → size ≡ answer_size n
+size_asked asked n h is told = told ∙ ap (λ (k : Kind). answer_size (kind_number k)) is ∙ asked_size asked n h
 
 -- ---- the writer
 pub may_write : (h : Held) (n : ℕ) (kind : Kind) → kind_number kind ≡ n → {t r b : Bool} → t ≡ tells (kind_number kind) → r ≡ holdable t h → r ≡ b →
