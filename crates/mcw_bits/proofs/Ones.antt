@@ -9,14 +9,13 @@ use lib.ListN.{length, get_or, set, drop, replicate, length-take, length-drop, l
 use lib.Seq.{get_or-take, get_or-drop, get_or-set_same, get_or-set_other}
 use borrow.Author.Tests.{leb-true, leb-false}
 use Rattle.race.specs.Race.{silent, says}
-use Rattle.race.specs.Inner.Raced.{heard, heard_from}
+use Rattle.race.specs.Inner.Held.{heard, heard_from}
 use Rattle.race.proofs.Cases.{tested, same?}
 use Rattle.mcw_bits.specs.Inner.Counts.{before}
 use Rattle.mcw_bits.specs.Commonest.{occurrences, commonest, window}
 use Rattle.mcw_bits.specs.Mcw.{size, said}
 use Rattle.mcw_bits.specs.Inner.Ones.{Ones, AllOnes, Ring, past_in, Rolled, Rolls, AllRoll, majority_of, Small}
-use Rattle.mcw_bits.specs.Inner.Say.{say_of, sayings}
-use Rattle.mcw_bits.proofs.Sayings.{listed}
+use Rattle.mcw_bits.specs.Inner.Say.{Sayings, say_of}
 use Rattle.std.specs.Prelude.{Option}
 use Rattle.mcw_bits.proofs.Counting.{before_same, before_other, before_le, before_mono, occ_part}
 use Rattle.mcw_bits.proofs.Commonest.{bit_zero, bits_commonest}
@@ -117,10 +116,10 @@ module _ {s : List ℕ} {i : ℕ} (B : AreBits s) (h : i ≤ length s) (m : ℕ)
 
 -- of each window, by its place
 module _ {s : List ℕ} {i : ℕ} {ones : List ℕ} (B : AreBits s) (A : AllOnes s i ones) where
-  pub votes_heard : i ≤ length s → (j : ℕ) → j < 4 → heard_from (sayings ones i) j ≡ said s i j
+  pub votes_heard : i ≤ length s → {gs : List ℕ} → Sayings ones i gs → (j : ℕ) → j < 4 → heard_from gs j ≡ said s i j
   unfolding said
-  votes_heard h j l =
-      ap heard (listed ones i j l)
+  votes_heard h {gs} S j l =
+      ap heard (S.each j l)
       ∙ four (λ (j : ℕ). heard (say_of (get_or ones j 0) i (size j)) ≡ cond (leb (size j) i) (says (commonest (window s i (size j)))) silent)
       (vote_heard B h 31 (A.each 0 (omega arith))) (vote_heard B h 127 (A.each 1 (omega arith)))
       (vote_heard B h 511 (A.each 2 (omega arith))) (vote_heard B h 2047 (A.each 3 (omega arith)))

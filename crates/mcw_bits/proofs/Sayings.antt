@@ -16,7 +16,8 @@ use Rattle.std.specs.Prelude.{Option, Some, None}
 use Rattle.race.proofs.Cases.{same?}
 use Rattle.mcw_bits.specs.Mcw.{size}
 use Rattle.mcw_bits.specs.Inner.Ones.{Rolled, majority_of, past_in}
-use Rattle.mcw_bits.specs.Inner.Say.{Heard, Votes, all_of, said_at, sayings}
+use Rattle.race.specs.Inner.Held.{silence}
+use Rattle.mcw_bits.specs.Inner.Say.{Hushed, Sayings, Votes}
 use Rattle.mcw_bits.proofs.Place.{four}
 
 -- what holds of the elements before place m, and of the new one, holds before m + 1
@@ -30,12 +31,8 @@ module _ {A : Type 0} (P : ℕ → A → Type 0) (d : A) (xs : List A) (m : ℕ)
   pub set_left : ((j : ℕ) → m ≤ j → P j (get_or xs j d)) → (j : ℕ) → m + 1 ≤ j → P j (get_or (set xs m v) j d)
   set_left p j k = rw (get_or-set_other xs m j v d (λ e. omega arith)) (p j (omega arith))
 
--- of the list of all
-pub listed : (ones : List ℕ) (i j : ℕ) → j < 4 → get_or (sayings ones i) j None ≡ said_at ones i j
-listed ones i = four (λ (j : ℕ). get_or (sayings ones i) j None ≡ said_at ones i j) refl refl refl refl
-
-pub votes_start : (ones : List ℕ) → Votes ones 0 (replicate 4 0)
-votes_start ones = record { full = refl; each = λ j l. absurd (omega arith) }
+pub votes_start : (ones votes : List ℕ) → length votes ≡ 4 → Votes ones 0 votes
+votes_start ones votes e = record { full = e; each = λ j l. absurd (omega arith) }
 
 pub votes_next : {ones votes : List ℕ} {m v : ℕ} → m < 4 → Votes ones m votes → v ≡ majority_of (get_or ones m 0) (size m)
     → Votes ones (m + 1) (set votes m v)
@@ -45,33 +42,23 @@ votes_next {ones} {votes} {m} {v} l V e =
       each = set_past (λ j g. g ≡ majority_of (get_or ones j 0) (size j)) 0 votes m v (omega (arith, V.full)) V.each e;
     }
 
-none_left : (g : Option ℕ) (j : ℕ) → get_or (replicate 4 g) j g ≡ g
-none_left g j = pick (dec_le 4 j)
-  where
-    pick : Dec (4 ≤ j) → get_or (replicate 4 g) j g ≡ g
-    pick (yes l) = get_or-eq_default (replicate 4 g) g {n = j} l
-    pick (no n) = get_or-replicate 4 j g g (lt_of_not-le n)
+pub hushed_start : {votes : List ℕ} {i : ℕ} → length votes ≡ 4 → Hushed votes i 0 votes
+hushed_start e = record { full = e; past = λ j l. absurd (omega arith); left = λ j l. refl }
 
-pub heard_start : (votes : List ℕ) (i : ℕ) → Heard votes i 0 (replicate 4 None)
-heard_start votes i = record { full = refl; past = λ j l. absurd (omega arith); left = λ j l. none_left None j }
-
-module _ {votes : List ℕ} {says : List (Option ℕ)} {i m : ℕ} (l : m < 4) (H : Heard votes i m says) where
-  abbrev Right : ℕ → Option ℕ → Type 0
-  Right j g = g ≡ cond (leb (size j) i) (Some (get_or votes j 0)) None
-
-  pub heard_says : size m ≤ i → Heard votes i (m + 1) (set says m (Some (get_or votes m 0)))
-  heard_says h =
+module _ {votes says : List ℕ} {i m : ℕ} (l : m < 4) (H : Hushed votes i m says) where
+  pub hushed_silent : i < size m → Hushed votes i (m + 1) (set says m silence)
+  hushed_silent h =
       record {
-        full = length-set says m _ ∙ H.full;
-        past = set_past Right None says m _ (omega (arith, H.full)) H.past (rw (le-leb (size m) i h));
-        left = set_left (λ j g. g ≡ None) None says m _ H.left;
+        full = length-set says m silence ∙ H.full;
+        past = set_past (λ j g. g ≡ cond (leb (size j) i) (get_or votes j 0) silence) 0 says m silence (omega (arith, H.full)) H.past (rw (lt-leb (size m) i h));
+        left = set_left (λ j g. g ≡ get_or votes j 0) 0 says m silence H.left;
       }
 
-  pub heard_silent : i < size m → Heard votes i (m + 1) says
-  heard_silent h =
+  pub hushed_kept : size m ≤ i → Hushed votes i (m + 1) says
+  hushed_kept h =
       record {
         full = H.full;
-        past = λ j k. same? j m (λ e. rw (e, lt-leb (size m) i h) (H.left m (omega arith))) (λ n. H.past j (omega arith));
+        past = λ j k. same? j m (λ e. rw (e, le-leb (size m) i h) (H.left m (omega arith))) (λ n. H.past j (omega arith));
         left = λ j k. H.left j (omega arith);
       }
 
@@ -87,14 +74,13 @@ rolled_next {ones} {ring} {next} {i} {x} {m} {v} l R e =
       left = set_left (λ j c. c ≡ get_or ones j 0) 0 next m v R.left;
     }
 
--- while some window does not take part, and from then on
-pub said_early : {ones votes : List ℕ} {says : List (Option ℕ)} {i : ℕ} → Votes ones 4 votes → Heard votes i 4 says → says ≡ sayings ones i
-said_early {ones} {votes} {says} {i} V H =
-    ext_get_or None says (sayings ones i) H.full
-    (λ j l. let k : j < 4 = omega (arith, H.full) in H.past j k ∙ rw (V.each j k) (sym (listed ones i j k)))
+-- before the longest window takes part, and from then on
+pub says_hushed : {ones votes says : List ℕ} {i : ℕ} → Votes ones 4 votes → Hushed votes i 4 says → Sayings ones i says
+says_hushed V H = record { full = H.full; each = λ j l. H.past j l ∙ rw (V.each j l) }
 
-pub said_late : {ones votes : List ℕ} (i : ℕ) → Votes ones 4 votes → size 3 ≤ i → all_of votes ≡ sayings ones i
-said_late {ones} {votes} i V h =
-    rw (V.each 0 (omega arith), V.each 1 (omega arith), V.each 2 (omega arith), V.each 3 (omega arith),
-      le-leb (size 0) i (omega arith), le-leb (size 1) i (omega arith), le-leb (size 2) i (omega arith), le-leb (size 3) i h)
-    refl
+pub says_all : {ones votes : List ℕ} {i : ℕ} → Votes ones 4 votes → size 3 ≤ i → Sayings ones i votes
+says_all {ones} {votes} {i} V h =
+    record { full = V.full; each = λ j l. V.each j l ∙ rw (le-leb (size j) i (omega (arith, longest j l))) }
+  where
+    longest : (j : ℕ) → j < 4 → size j ≤ size 3
+    longest = four (λ (j : ℕ). size j ≤ size 3) (omega arith) (omega arith) (omega arith) (omega arith)

@@ -5,7 +5,7 @@ ghost use Rattle.mcw_bits.specs.Inner.Ones.{AllRoll, Rolled, Rolls, majority_of,
 use crate::WINDOWS;
 
 // The commonest bit of a window of size w with `ones` ones.
-pub fn majority(ones: usize, w: usize) -> u8
+pub fn majority(ones: usize, w: usize) -> u16
     requires { ones < 4611686018427387904 }
     ensures { result ≡ majority_of ones w }
 {
