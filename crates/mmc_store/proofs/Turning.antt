@@ -11,7 +11,7 @@ use native.Mathlib.Decide.{ℕ_discrete, dec_lt}
 use lib.ListN.{length, get_or, set, replicate, length-set}
 use lib.Seq.{get_or-set_same, get_or-set_other}
 use Rattle.table.specs.Inner.Table.{room, number, value}
-use Rattle.race.specs.Inner.Held.{silence}
+use Rattle.std.specs.Prelude.{Option, None}
 use Rattle.mmc_store.specs.Counts.{present}
 use Rattle.mmc_store.specs.Levels.{Level, level, found}
 use Rattle.mmc_store.specs.Inner.Words.{bests, node, best}
@@ -40,7 +40,7 @@ abbrev Top : ℕ → ℕ → ℕ → Type 0
 Top N i top = (top ≤ N) × (top ≤ i) × (top < N → i ≤ top)
 
 -- l levels are through with place i, and `carry` is the number of the context of level l + 1 at the next place
-pub record Turns (N cap : ℕ) (s : List ℕ) (i top l carry : ℕ) (known : Bool) (entries nodes guesses m : List ℕ) : Type 0 where
+pub record Turns (N cap : ℕ) (s : List ℕ) (i top l carry : ℕ) (known : Bool) (entries nodes : List ℕ) (guesses : List (Option ℕ)) (m : List ℕ) : Type 0 where
   pub place : Place s i
   pub least : Top N i top
   pub reach : l ≤ top
@@ -82,7 +82,7 @@ module _ {N cap : ℕ} {s : List ℕ} {i : ℕ} {E nodes m : List ℕ} (w : Stan
       rest j c d (yes e) = w.spots.each j e d ∙ missing j c d
       rest j c d (no f) = w.spots.beyond j (omega arith)
 
-  pub turns_start : {top : ℕ} {G : List ℕ} → Top N i top → G ≡ replicate N silence → Turns N cap s i top 0 (get_or s i 0 + 1) true E nodes G m
+  pub turns_start : {top : ℕ} {G : List (Option ℕ)} → Top N i top → G ≡ replicate N None → Turns N cap s i top 0 (get_or s i 0 + 1) true E nodes G m
   unfolding node
   turns_start least mute = record {
     place = place;
@@ -101,7 +101,7 @@ module _ {N cap : ℕ} {s : List ℕ} {i : ℕ} {E nodes m : List ℕ} (w : Stan
   }
 
 -- ---- the number of level l + 1 at the next place is put down
-module _ {N cap : ℕ} {s : List ℕ} {i top l carry : ℕ} {known : Bool} {E nodes G m : List ℕ} (w : Turns N cap s i top l carry known E nodes G m)
+module _ {N cap : ℕ} {s : List ℕ} {i top l carry : ℕ} {known : Bool} {E nodes : List ℕ} {G : List (Option ℕ)} {m : List ℕ} (w : Turns N cap s i top l carry known E nodes G m)
     {nodes' : List ℕ} (put : nodes' ≡ set nodes l carry) where
   abbrev T : ℕ → List ℕ
   T = tables m
@@ -146,7 +146,7 @@ module _ {N cap : ℕ} {s : List ℕ} {i top l carry : ℕ} {known : Bool} {E no
           ap (value (T l) bests) context_is ∙ sym ((w.held.kept.stores l one).bests_are i)
           ∙ ap (λ (k : ℕ). best s (suc l) (level cap s k (suc l)).places i) (reached_waits i l l (omega arith))
 
-      module _ {r : Bool} {G' : List ℕ} (says : Says (value (T l) bests c) l known G G' r) where
+      module _ {r : Bool} {G' : List (Option ℕ)} (says : Says (value (T l) bests c) l known G G' r) where
         pub ready : Ready N cap s i l c (get_or s i 0) r carry E m
         ready = record {
           held = w.held;

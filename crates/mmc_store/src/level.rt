@@ -1,9 +1,9 @@
 // One level counts one place.
 ghost use Rattle.std.specs.Prelude.{List, ℕ, ◌<◌};
 ghost use Rattle.mmc_bits.specs.Levels.{levels, cap};
-ghost use Rattle.mmc_bits.specs.Inner.Steps.{Some};
 ghost use Rattle.mmc_store.specs.Inner.Places.{Takes, Ready, Through};
 
+use crate::Store;
 use crate::tables::{make_in, tally, value_in};
 
 // How many entries a level makes.
@@ -27,11 +27,11 @@ fn takes(entries: &mut [usize; 16], l: usize, found: bool, n: usize) -> bool
     false
 }
 
-// Counts the place of the symbol x at level l + 1, whose context there has the number c, and returns the pair's number, which is that of the
+// Counts the place of the symbol x, a place of a sequence, at level l + 1, whose context there has the number c, and returns the pair's number, which is that of the
 // context of level l + 2 at the next place. `carry` is the number of the pair's newer symbols: where they are no word, neither is the pair. Else
 // a missing pair is made, if its table has room: where it is not counted it is only a way to longer words.
 pub fn count_level(
-    space: &mut [u32],
+    space: &mut Store,
     entries: &mut [usize; 16],
     l: usize,
     c: usize,
@@ -39,9 +39,9 @@ pub fn count_level(
     found: bool,
     carry: usize,
 ) -> usize
-    requires { Some (List ℕ × ℕ) (λ h. Ready levels cap h.0 h.1 l c x found carry entries.old space.old) }
-    ensures { (s : List ℕ) (i : ℕ) → Ready levels cap s i l c x found carry entries.old space.old →
-        Through levels cap s i l result space.old entries.new space.new }
+    ghost here: { List ℕ × ℕ }
+    requires { Ready levels cap here.0 here.1 l c x found carry entries.old space.old }
+    ensures { Through levels cap here.0 here.1 l result space.old entries.new space.new }
 {
     if carry == 0 {
         return 0;

@@ -6,9 +6,8 @@ mod look;
 pub mod place;
 mod tables;
 
-// "a context is present with its predicted symbol, or absent"
-#[derive(Clone, Copy)]
-pub enum Context {
-    Present(u8),
-    Absent,
-}
+// How many numbers the seventeen tables take.
+pub const STORE: usize = 11_141_120;
+
+// The tables, one after the other, as they are lent.
+pub type Store = [u32; STORE];

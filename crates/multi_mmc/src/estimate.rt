@@ -32,7 +32,7 @@ pub fn store_estimate(samples: &[u8], k: u64, space: &mut [u32]) -> Answer
     ensures value { result ≡ store_estimate samples.now k }
     ensures space_after { space.new ≡ StoreSpace.final levels space.old }
 {
-    let outcome = mmc_symbols(samples, space);
+    let outcome = mmc_symbols(samples, space.first_chunk_mut().unwrap());
     let n = samples.len() - FIRST_PLACE;
     rate(outcome, n as u64, k).into()
 }

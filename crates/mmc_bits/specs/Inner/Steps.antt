@@ -1,7 +1,6 @@
 -- What the small functions of the code do, and what the code holds before, within and after a place. Definitions only.
 use Rattle.std.specs.Prelude.{ℕ, zero, suc, ◌+◌, ◌*◌, ◌-◌, ◌^◌, ◌<◌, ◌≤◌, min, ◌≡◌, cond, List, ◌++◌, get_or, length, drop, ltb, eqb}
-use Rattle.race.specs.Race.{Guess, silent, says, judge}
-use Rattle.race.specs.Inner.Held.{silence}
+use Rattle.race.specs.Race.{judge}
 use Rattle.capture.specs.Bits.{one}
 use Rattle.verdicts.specs.declared.Masks.{Masks}
 use Rattle.verdicts.specs.Inner.Told.{Told}
@@ -17,11 +16,6 @@ Bits b = (j : ℕ) → get_or b j 0 < 2
 -- how many distinct pairs of level L occurred before place i
 unfoldable pub distinct : ℕ → List ℕ → ℕ → ℕ
 distinct L b i = places (fresh L b) L i
-
--- a guess as the code holds it
-abbrev pub spoken : Guess → ℕ
-spoken silent = silence
-spoken (says x) = x
 
 -- a counter is below this
 abbrev pub counter_end : ℕ
@@ -55,11 +49,6 @@ kept cap m n = cond (eqb m 0) (cond (ltb n cap) (n + 1) n) n
 -- within a place: of n levels, those to l are past it and the others before it
 unfoldable pub mixed : ℕ → ℕ → ℕ → List ℕ → ℕ → List ℕ → List ℕ
 mixed cap n l b i rest = span cap 1 l b (suc i) ++ (span cap (suc l) (n - l) b i ++ rest)
-
--- there is one of which P holds: the code that works at a place of a history is not handed the history
-pub record Some (A : Type 0) (P : A → Type 0) : Type 0 where
-  pub it : A
-  pub holds : P it
 
 -- place i of a history b: the bit there, and the last bits before it as one number
 pub record Stands (b : List ℕ) (i recent bit : ℕ) : Type 0 where

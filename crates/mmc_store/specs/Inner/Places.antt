@@ -1,12 +1,12 @@
 -- What the code does to the lent numbers, and what it holds between two levels and between two places. Definitions only.
-use Rattle.std.specs.Prelude.{ℕ, suc, ◌+◌, ◌*◌, ◌%◌, ◌<◌, ◌≤◌, max, ◌≡◌, Bool, true, false, cond, ◌&&◌, List, ltb, get_or, length, set, take, drop}
+use Rattle.std.specs.Prelude.{ℕ, suc, ◌+◌, ◌*◌, ◌%◌, ◌<◌, ◌≤◌, max, ◌≡◌, Bool, true, false, Option, Some, None, cond, ◌&&◌, List, ltb, get_or, length, set, take, drop}
 use Rattle.capture.specs.Limit.{symbol_limit}
 use Rattle.table.specs.Inner.Table.{size, number, value, valued}
 use Rattle.mmc_bits.specs.Levels.{levels}
-use Rattle.mmc_bits.specs.Inner.Steps.{spoken}
 use Rattle.mmc_store.specs.Levels.{level, found, guess}
 use Rattle.mmc_store.specs.Inner.Words.{counts, bests, key_of, node, Kept}
 use Rattle.mmc_store.specs.Inner.Ways.{Few}
+use Rattle.mmc_store.specs.Inner.Answers.{spoken}
 
 -- table t of the lent numbers
 unfoldable pub part : ℕ → List ℕ → List ℕ
@@ -43,9 +43,9 @@ pub data Takes (cap l : ℕ) (known : Bool) (n : ℕ) (E : List ℕ) : List ℕ 
   at_the_cap : (known ≡ true → n ≡ 0) → cap ≤ get_or E l 0 → Takes cap l known n E E false
 
 -- level l + 1 speaks, if its context is present, whose best is v, and every shorter one is `known` to be. Whether they are is r
-pub record Says (v l : ℕ) (known : Bool) (G G' : List ℕ) (r : Bool) : Type 0 where
+pub record Says (v l : ℕ) (known : Bool) (G G' : List (Option ℕ)) (r : Bool) : Type 0 where
   pub known_is : r ≡ (known && ltb 0 v)
-  pub said : G' ≡ cond r (set G l (v % 256)) G
+  pub said : G' ≡ cond r (set G l (Some (v % 256))) G
 
 -- before place i, and of the first k levels after it
 abbrev pub reached : ℕ → ℕ → ℕ → ℕ
@@ -82,9 +82,9 @@ pub record Stands (N cap : ℕ) (s : List ℕ) (i : ℕ) (entries nodes m : List
   pub spots : Spots N cap (tables m) s i nodes
 
 -- what all sub-predictors say of place i
-pub record Said (n cap : ℕ) (s : List ℕ) (i : ℕ) (guesses : List ℕ) : Type 0 where
+pub record Said (n cap : ℕ) (s : List ℕ) (i : ℕ) (guesses : List (Option ℕ)) : Type 0 where
   pub full : length guesses ≡ n
-  pub each : (j : ℕ) → j < n → get_or guesses j 0 ≡ spoken (guess cap s i j)
+  pub each : (j : ℕ) → j < n → get_or guesses j None ≡ spoken (guess cap s i j)
 
 -- level l + 1 comes to place i, where x stands, its context has the number c and `known` says whether it and every shorter one are present. The
 -- newer symbols of its pair have the number `carry`; where they are missing, the level and every longer one are at their caps

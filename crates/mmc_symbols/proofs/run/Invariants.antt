@@ -1,12 +1,10 @@
-use Prim.Native.Nat.{◌-◌}
-use lib.ListN.{length}
 use Rattle.mmc_bits.specs.Levels.{levels, cap}
 use Rattle.mmc_symbols.proofs.Running.{Run}
 use Rattle.mmc_symbols.proofs.run.Given as goal
 
+abbrev pub ghost-at_place : goal.ghost-at_place
+ghost-at_place a = (a.s.now, a.place)
+
 abbrev pub invariant-loop-place : goal.invariant-loop-place
 invariant-loop-place l =
-    Run levels cap l.s l.space l.entries l.nodes l.scores l.leader l.tally l.place
-
-abbrev pub decreases-loop-place : goal.decreases-loop-place
-decreases-loop-place l = length l.s - l.place
+    Run levels cap l.s l.store l.entries l.nodes l.race l.place

@@ -37,8 +37,8 @@ loop-l-preserved g c =
     let s = c.level_step in
     let w = 2 * 2 ^ l.l % 18446744073709551616 in (
       rw (add-one l.l)
-      (level_passes c.requires.0 l.invariant.0 w c.loop-l-test.true c.requires.1 (doubled l.l (omega arith)) s.result s.new.part s.ensures.value
-      s.ensures.part_after),
+          (level_passes c.requires.0 l.invariant.0 w c.loop-l-test.true c.requires.1 (doubled l.l (omega arith)) s.result s.new.part s.ensures.value
+          s.ensures.part_after),
       same_len_mid (w * 2 - 4) (w * 4 - 4 - (w * 2 - 4)) l.counters s.new.part s.auto.part ∙ l.invariant.1,
     )
 

@@ -22,37 +22,39 @@ fits-key : (c x : ℕ) → c * 256 + x < key_limit → Fits w64 (c * 256) × Fit
 fits-key c x h = (omega arith, omega arith)
 
 pub make_in-p-requires : goal.make_in-p-requires
-make_in-p-requires c =
-    let ready = c.requires.holds in (ready.held.long, (table-next _ ready.one).0, pair_table caps ready, key_fits caps ready)
+make_in-p-requires g c =
+    let ready = c.requires in ((table-next _ ready.one).0, pair_table caps ready, key_fits caps ready)
 
 pub returns-then-p-eq0 : goal.returns-then-p-eq0
-returns-then-p-eq0 c = λ s i ready. through_none caps ready (looked caps ready (λ z. omega arith) c.make_in-p.ensures.changed c.make_in-p.ensures.value) c.if-p-eq0.true
+returns-then-p-eq0 g c = let ready = c.requires in through_none caps ready (looked caps ready (λ z. omega arith) c.make_in-p.ensures.changed c.make_in-p.ensures.value) c.if-p-eq0.true
 
 pub value_in-n-requires : goal.value_in-n-requires
-value_in-n-requires c =
-    let ready = c.requires.holds in
-    count_ready caps ready (looked caps ready (λ z. omega arith) c.make_in-p.ensures.changed c.make_in-p.ensures.value)
+value_in-n-requires g c =
+    let ready = c.requires in
+    let r = count_ready caps ready (looked caps ready (λ z. omega arith) c.make_in-p.ensures.changed c.make_in-p.ensures.value) in
+    (r.1, r.2, r.3)
 
 pub returns-then-not-takes : goal.returns-then-not-takes
-returns-then-not-takes c = λ s i ready. through_left caps ready (looked caps ready (λ z. omega arith) c.make_in-p.ensures.changed c.make_in-p.ensures.value)
+returns-then-not-takes g c = let ready = c.requires in through_left caps ready (looked caps ready (λ z. omega arith) c.make_in-p.ensures.changed c.make_in-p.ensures.value)
     c.value_in-n.ensures.0 c.takes.ensures c.if-not-takes.true
 
 pub tally-requires : goal.tally-requires
-tally-requires c =
-    let ready = c.requires.holds in
-    tally_ready caps ready (looked caps ready (λ z. omega arith) c.make_in-p.ensures.changed c.make_in-p.ensures.value)
-    c.value_in-n.ensures.0
+tally-requires g c =
+    let ready = c.requires in
+    let r = tally_ready caps ready (looked caps ready (λ z. omega arith) c.make_in-p.ensures.changed c.make_in-p.ensures.value)
+    c.value_in-n.ensures.0 in
+    (r.1, r.2, r.3, r.4, r.5)
 
 pub returns : goal.returns
-returns c = λ s i ready. through_taken caps ready (looked caps ready (λ z. omega arith) c.make_in-p.ensures.changed c.make_in-p.ensures.value)
+returns g c = let ready = c.requires in through_taken caps ready (looked caps ready (λ z. omega arith) c.make_in-p.ensures.changed c.make_in-p.ensures.value)
     c.value_in-n.ensures.0 c.if-p-eq0.false c.tally.ensures c.takes.ensures
     c.if-not-takes.false
 
 pub overflow_mul-c : goal.overflow_mul-c
-overflow_mul-c c = (fits-key _ _ (key_fits caps c.requires.holds)).0
+overflow_mul-c g c = (fits-key _ _ (key_fits caps c.requires)).0
 
 pub overflow_add-c : goal.overflow_add-c
-overflow_add-c c = (fits-key _ _ (key_fits caps c.requires.holds)).1
+overflow_add-c g c = (fits-key _ _ (key_fits caps c.requires)).1
 
 pub returns-then-carry-eq0 : goal.returns-then-carry-eq0
-returns-then-carry-eq0 c = λ s i ready. through_none caps ready (not_looked caps ready c.if-carry-eq0.true) refl
+returns-then-carry-eq0 g c = let ready = c.requires in through_none caps ready (not_looked caps ready c.if-carry-eq0.true) refl

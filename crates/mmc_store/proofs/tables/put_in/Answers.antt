@@ -6,5 +6,5 @@ use Rattle.mmc_store.proofs.tables.put_in.Goals as goal
 pub returns : goal.returns
 returns c =
     let put = c.put in
-    back tables_most c.args.t c.args.space.now put.new.m c.requires.1 c.requires.0 put.auto.m _
+    back tables_most c.args.t c.args.space.now put.new.m c.requires.0 c.told-space put.auto.m _
     (rw (lent_is c.args.t c.args.space.now) at put.ensures)

@@ -7,8 +7,7 @@ use Rattle.mmc_store.proofs.tables.tally.Goals as goal
 pub returns : goal.returns
 returns c =
     let raised = c.put_in-2 in
-    let larger = c.larger in
-    tallies _ _ _ _ _ _ _ _ c.put_in.ensures _ _ c.value_in-old.ensures.0 larger.ensures raised.ensures
+    tallies _ _ _ _ _ _ _ _ c.put_in.ensures _ _ c.value_in-old.ensures.0 c.max.ensures raised.ensures
 
 pub overflow_add-n : goal.overflow_add-n
 overflow_add-n c = omega (arith, limit_is)
