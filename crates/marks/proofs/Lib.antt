@@ -1,2 +1,3 @@
-pub mod Marking
-pub mod Sums
+pub mod Chunks
+pub mod Seeing
+pub mod Ranks

@@ -1,1 +1,1 @@
-pub mod Fours
+mod Translating

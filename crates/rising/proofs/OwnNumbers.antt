@@ -10,7 +10,6 @@ use native.Mathlib.Nat.{eq-or-lt_of_le, le_of_suc-le-suc, lt_of_not-le}
 use native.Mathlib.Omega.{arith}
 use lib.ListN.{length, get_or}
 use Rattle.alphabet.specs.Alphabet.{has, distinct, distinct_below, rising, sorted}
-use Rattle.alphabet.specs.Inner.Numbering.{Holds}
 use Rattle.alphabet.proofs.Alphabets.{Bytes, rising_below}
 use Rattle.alphabet.proofs.Distinct.{below_le, distinct_le, one_le}
 use Rattle.alphabet.proofs.Membership.{has_at}
@@ -55,10 +54,10 @@ module _ (s : List ℕ) where
   unfolding rising distinct
   all_full l = let e : distinct s ≡ 256 = omega (arith, distinct_le s) in ap (rising s) e
 
-  -- what the table of numbers tells of such a capture
-  module _ {numbers : List ℕ} (h : Holds (rising s) numbers) (b : Bytes s) {size : ℕ} (e : size ≡ distinct s) where
+  -- how many there are, and how many of them stand below that, tell of such a capture
+  module _ (b : Bytes s) {size : ℕ} (e : size ≡ distinct s) where
     pub all_sorted : 255 < size → sorted s ≡ s
     all_sorted l = sorted_same (all_full (omega arith)) b
 
-    pub own_sorted : size < 256 → get_or numbers size 0 ≡ size → sorted s ≡ s
-    own_sorted l g = sorted_same (let q : rising s size ≡ size = sym (h.at size l) ∙ g in rw e at q) b
+    pub own_sorted : {x : ℕ} → x ≡ rising s size → x ≡ size → sorted s ≡ s
+    own_sorted q g = sorted_same (let r : rising s size ≡ size = sym q ∙ g in rw e at r) b

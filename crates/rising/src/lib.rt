@@ -1,51 +1,38 @@
 // The translator in rising order, for MultiMMC: each value's number is how many distinct values are smaller.
 #![tactic(auto)]
 
-ghost use Rattle.std.specs.Prelude.{◌≡◌, true, List, ℕ, ◌<◌, ◌≤◌, get_or, length};
-ghost use Rattle.alphabet.specs.Alphabet.{alphabet_in, alphabet_of, distinct, output_of, rising, sorted, written};
-ghost use Rattle.alphabet.specs.Inner.Numbering.{Holds};
+ghost use Rattle.std.specs.Prelude.{◌≡◌, true, ◌<◌, EachIndex, get_or, length};
+ghost use Rattle.alphabet.specs.Alphabet.{alphabet_in, alphabet_of, distinct, output_of, sorted};
 
 use answer::Refusal;
-use marks::{mark, number_rising};
+use marks::ranking::Ranking;
 use renumber::renumber;
 
-// Whether all `size` values stand below `size`, so that each is its own number and a capture is its own translation. The
-// table says how many do at `size`.
-fn own_numbers(numbers: &[u8; 256], size: u64) -> bool
-    ensures { (s : List ℕ) → ((i : ℕ) → i < length s → get_or s i 0 < 256) → Holds (rising s) numbers.now
-        → size ≡ distinct s → result ≡ true → sorted s ≡ s }
+// Whether all of the values stand below how many there are, so that each is its own number and the capture is its own
+// translation. The number of the first value that does not stand below says how many do.
+#[tactic(auto, using(crate::proofs::OwnNumbers::all_sorted, crate::proofs::OwnNumbers::own_sorted))]
+fn is_own(ranking: &Ranking) -> bool
+    ensures { EachIndex ranking.now (λ i. get_or ranking.now i 0 < 256) → result ≡ true → sorted ranking.now ≡ ranking.now }
 {
-    if 255 < size {
-        return true;
-    }
-    numbers[size as usize] == size as u8
-}
-
-// Writes the symbols as they are: with no look-up, many go at a time.
-// Kept: (b) a loop in place of copy_from_slice: a symbol takes 3.7 instructions with it, and 4.5 with that.
-fn copy(symbols: &[u8], out: &mut [u8])
-    requires { length symbols.now ≤ length out.old }
-    ensures { out.new ≡ written symbols.now out.old }
-{
-    for (i, symbol) in symbols.iter().enumerate() {
-        out[i] = *symbol;
+    match u8::try_from(ranking.size()) {
+        Ok(size) => ranking.number(size) == size,
+        Err(_) => true,
     }
 }
 
 // Numbers the values in rising order and translates. Returns how many there are.
 fn number_by_value(symbols: &[u8], out: &mut [u8]) -> u64
-    requires { length symbols.now ≤ length out.old }
-    ensures { (result ≡ distinct symbols.now) × (out.new ≡ written (sorted symbols.now) out.old) }
+    requires { length out.old ≡ length symbols.now }
+    ensures { (result ≡ distinct symbols.now) × (out.new ≡ sorted symbols.now) }
 {
-    let mut numbers = [0u8; 256];
-    mark(symbols, &mut numbers);
-    let size = number_rising(&mut numbers);
-    if own_numbers(&numbers, size) {
-        copy(symbols, out);
+    let ranking = Ranking::of(symbols);
+    if is_own(&ranking) {
+        // With no look-up, many go at a time.
+        out.copy_from_slice(symbols);
     } else {
-        renumber(symbols, &numbers, out);
+        renumber(&ranking, out);
     }
-    size
+    ranking.size()
 }
 
 // value_sorted_alphabet: the capture's values numbered in rising order. The result is how many there are.
@@ -55,5 +42,5 @@ pub fn value_sorted_alphabet(symbols: &[u8], out: &mut [u8]) -> Result<u64, Refu
         × (out.new ≡ output_of sorted symbols.now out.old) }
 {
     alphabet::refusal(symbols, out)?;
-    Ok(number_by_value(symbols, out))
+    Ok(number_by_value(symbols, &mut out[..symbols.len()]))
 }

@@ -1,14 +1,10 @@
--- What each turn of `renumber::renumber` keeps true. The symbols passed are translated, and `renumber_rest` translates those that are left.
+-- What each turn of `renumber::renumber` keeps true. The symbols passed are translated.
 use mathlib.Core.Path.{◌≡◌}
-use Prim.Native.Nat.{◌≤◌, ◌-◌}
-use lib.ListN.{length}
+use mathlib.Core.List.{map}
+use Prim.Native.Nat.{◌*◌}
+use lib.ListN.{take}
 use Rattle.alphabet.specs.Alphabet.{rising}
-use Rattle.alphabet.specs.Inner.Numbering.{partly}
 use Rattle.renumber.proofs.renumber.Given as goal
 
 abbrev pub invariant-loop-i : goal.invariant-loop-i
-invariant-loop-i l =
-    (l.i ≤ length l.symbols) × (length l.out ≡ length l.initial.out) × (l.out ≡ partly (rising l.symbols) l.symbols l.i l.initial.out)
-
-abbrev pub decreases-loop-i : goal.decreases-loop-i
-decreases-loop-i l = length l.symbols - l.i
+invariant-loop-i l = take (l.i * 8) l.out ≡ map (rising l.ranking) (take (l.i * 8) l.ranking)

@@ -1,0 +1,9 @@
+-- What each turn of `renumber::renumber_each` keeps true. The symbols passed are translated.
+use mathlib.Core.Path.{◌≡◌}
+use mathlib.Core.List.{map}
+use lib.ListN.{take}
+use Rattle.alphabet.specs.Alphabet.{rising}
+use Rattle.renumber.proofs.renumber_each.Given as goal
+
+abbrev pub invariant-loop-i : goal.invariant-loop-i
+invariant-loop-i l = take l.i l.out ≡ map (rising l.ranking) (take l.i l.symbols)
