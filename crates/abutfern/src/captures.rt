@@ -11,7 +11,7 @@ use capture::BitRead;
 pub extern "C" fn abutfern_bit(symbols: &[u8], width: u8, i: u64) -> BitRead
     ensures { result ≡ bit_read symbols.now width i }
 {
-    BitRead::from(capture::bits::bit(symbols, width, i))
+    capture::bits::bit(symbols, width, i).into()
 }
 
 // A capture's values numbered by first sight.
@@ -20,7 +20,7 @@ pub extern "C" fn abutfern_dense_alphabet(symbols: &[u8], out: &mut [u8]) -> Alp
     ensures { (result ≡ alphabet_of symbols.now out.old) ×
         (out.new ≡ output_of dense symbols.now out.old) }
 {
-    Alphabet::from(dense::dense_alphabet(symbols, out))
+    dense::dense_alphabet(symbols, out).into()
 }
 
 // A capture's values numbered in rising order.
@@ -29,5 +29,5 @@ pub extern "C" fn abutfern_value_sorted_alphabet(symbols: &[u8], out: &mut [u8])
     ensures { (result ≡ alphabet_of symbols.now out.old) ×
         (out.new ≡ output_of sorted symbols.now out.old) }
 {
-    Alphabet::from(rising::value_sorted_alphabet(symbols, out))
+    rising::value_sorted_alphabet(symbols, out).into()
 }

@@ -43,12 +43,12 @@ pub extern "C" fn abutfern_board_figure(
 ) -> Figure
     ensures { result ≡ figure_of mcw_bits mcw_literal mmc_bits mmc_literal bits_per_symbol }
 {
-    let figure = board::board_figure(
+    board::board_figure(
         mcw_bits,
         mcw_literal,
         mmc_bits,
         mmc_literal,
         bits_per_symbol,
-    );
-    figure.into()
+    )
+    .into()
 }

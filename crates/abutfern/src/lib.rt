@@ -1,4 +1,4 @@
-// The C interface: each function is that of the library, under a name of its own, with the same contract.
+// The C interface: each function is that of the library, under a name of its own, and C gets its result as a record of numbers.
 #![tactic(auto)]
 
 mod captures;
