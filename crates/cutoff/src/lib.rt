@@ -17,6 +17,7 @@ const ENTRIES: usize = 512;
 const SPREAD: usize = 1280;
 
 // The cutoff for an entropy, or a refusal, as C has it.
+// Kept: (a) the C interface has this layout and these names.
 #[repr(C)]
 #[derive(Clone, Copy)]
 pub struct Cutoff {

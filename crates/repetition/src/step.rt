@@ -9,6 +9,7 @@ use answer::{DONE, Refusal};
 use cutoff::{cutoff_for, is_cutoff};
 
 // The running test's state, lent by the host; all 0 where it was never started.
+// Kept: (a) the C interface has this layout, and takes any state, so that no invariant holds of it.
 #[repr(C)]
 #[derive(Clone, Copy)]
 pub struct RepetitionTest {
@@ -18,6 +19,7 @@ pub struct RepetitionTest {
 }
 
 // Whether the alarm stands, or a refusal, as C has it.
+// Kept: (a) the C interface has this layout and these names.
 #[repr(C)]
 #[derive(Clone, Copy)]
 pub struct Alarm {

@@ -23,8 +23,8 @@ impl<'a> Comparison<'a> {
     pub fn agrees(self, kind: Kind) -> Option<bool> {
         match kind {
             Kind::Bit => Some(self.bit()),
-            Kind::DenseAlphabet => self.dense_alphabet(),
-            Kind::ValueSortedAlphabet => self.value_sorted_alphabet(),
+            Kind::DenseAlphabet => self.translated(dense::dense_alphabet),
+            Kind::ValueSortedAlphabet => self.translated(rising::value_sorted_alphabet),
             Kind::RelEpsilonEqual => self.rel_epsilon_equal(),
             Kind::Sqrt => self.sqrt(),
             Kind::Ln => self.ln(),
@@ -59,21 +59,16 @@ impl<'a> Comparison<'a> {
         all && past == Err(Refusal::TooShort)
     }
 
-    // A translated capture and its alphabet's size.
-    fn translated(mut self, size: Result<u64, Refusal>, out: &[u8]) -> Option<bool> {
+    // A capture translated, and its alphabet's size.
+    fn translated<F: Fn(&[u8], &mut [u8]) -> Result<u64, Refusal>>(
+        mut self,
+        translate: F,
+    ) -> Option<bool>
+        requires { F.IsAlwaysCallable translate }
+    {
+        let mut out = [0; LONGEST];
+        let size = translate(self.capture, &mut out);
         Some(size == Ok(self.word()?) && out.starts_with(self.expected))
-    }
-
-    fn dense_alphabet(self) -> Option<bool> {
-        let mut out = [0; LONGEST];
-        let size = dense::dense_alphabet(self.capture, &mut out);
-        self.translated(size, &out)
-    }
-
-    fn value_sorted_alphabet(self) -> Option<bool> {
-        let mut out = [0; LONGEST];
-        let size = rising::value_sorted_alphabet(self.capture, &mut out);
-        self.translated(size, &out)
     }
 
     fn rel_epsilon_equal(mut self) -> Option<bool> {
