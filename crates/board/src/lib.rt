@@ -15,6 +15,7 @@ pub use given::{Figure, Given, Which};
 
 // The board figure, in bits of min-entropy per symbol, and the estimate that gave it. Refused are a width that is none, first of all, then the first
 // refused of the four, then an entropy out of its range, then an estimate that was not run.
+// Kept: (a) C gives the four answers one by one (abutfern_board_figure).
 #[tactic(auto, unfolding(crate::specs::Board::figure_of, crate::specs::Board::figure_number))]
 pub fn board_figure(
     mcw_bits: Answer,

@@ -7,6 +7,7 @@ use answer::{Answer, DONE, Estimated, Refusal};
 use recordable::Held;
 
 // An answer and its flag, as a record holds it. Any flag but 0 says that the winner and the score are there.
+// Kept: (a) the flag beside the answer is the C interface's (abutfern_write_record).
 pub fn held_by(answer: Answer, told: u64) -> Held
     ensures { result ≡ held_by answer told }
 {

@@ -104,6 +104,7 @@ fn is_as_refused(a: &Answer) -> bool
 }
 
 // Whether a record may hold an answer; else it is number 9.
+// Kept: (a) the number is C's (abutfern_write_record) or a record's, and may be any, so the answer is no Result here.
 #[tactic(auto, unfolding(crate::specs::Recordable::recordable))]
 pub fn is_recordable(a: Answer) -> bool
     ensures { result ≡ recordable a }

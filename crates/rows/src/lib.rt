@@ -51,6 +51,7 @@ impl From<Records> for Row {
 pub fn read_records(bytes: &[u8]) -> Records
     ensures { row_told result ≡ row_of bytes.now }
 {
+    // Kept: (d) a place in the bytes; an iterator over records would be a type with a model, for this loop and the next.
     let mut at = 0;
     let mut good = 0;
     while at < bytes.len() {
