@@ -11,7 +11,9 @@ use Rattle.answer.proofs.Order.{passed}
 use Rattle.answer.specs.Numbers.{done, too_long, too_short, not_run}
 use Rattle.answer.specs.Refused.{refused}
 use Rattle.answer.specs.declared.Answer.{Answer}
-use Rattle.alphabet.specs.Alphabet.{distinct, sorted, written}
+use Rattle.alphabet.specs.Alphabet.{alphabet_of, distinct, output_of, sorted, written}
+use Rattle.alphabet.specs.declared.Alphabet.{Alphabet}
+use Rattle.multi_mmc.proofs.Translated.{Translation}
 use Rattle.capture.specs.Limit.{over_limit, symbol_limit}
 use Rattle.mmc_bits.specs.Levels.{levels, cap}
 use Rattle.mmc_bits.specs.Space as BitSpace
@@ -56,6 +58,17 @@ module _ (s out space : List ℕ) {n : ℕ} (e : n ≡ literal_number s out spac
         many = ltb-false (length s) least_samples six.0;
         room = ltb-false (length out) (length s) lent.0;
         work = ltb-false (length space) (needed s) lent.1;
+      }
+
+  -- the translator takes it too
+  pub translated : n ≡ 0 → {a : Alphabet} {out₁ : List ℕ} → a ≡ alphabet_of s out → out₁ ≡ output_of sorted s out → Translation s out a out₁
+  translated z answers leaves =
+      let ran = literal_taken z in
+      record {
+        fits = ran.fits;
+        room = ran.room;
+        answers = answers;
+        leaves = leaves;
       }
 
   abbrev Answered : Answer → List ℕ → List ℕ → Type 0

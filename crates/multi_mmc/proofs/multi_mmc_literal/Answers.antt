@@ -1,6 +1,6 @@
 -- `multi_mmc::multi_mmc_literal` meets its contract. It is refused by the number of `literal_refusal`; else the race is over the rising numbers, which are
 -- bits where there are at most two. Assumes nothing.
-use mathlib.Core.Path.{◌≡◌, ap, ◌∙◌}
+use mathlib.Core.Path.{ap, ◌∙◌}
 use mathlib.Core.List.{List}
 use Prim.Native.Nat.{ℕ, ◌≤◌, ◌<◌}
 use native.Mathlib.Omega.{arith}
@@ -10,8 +10,8 @@ use Rattle.alphabet.proofs.Alphabets.{Bytes}
 use Rattle.mmc_bits.specs.Levels.{cap, levels}
 use Rattle.mmc_bits.specs.Space.{final}
 use Rattle.multi_mmc.specs.Tracks.{bits_estimate, store_estimate}
-use Rattle.multi_mmc.proofs.LiteralAnswers.{Taken, literal_refused, literal_taken, many_needed, many_ran, two_needed, two_ran}
-use Rattle.multi_mmc.proofs.Translated.{Translation, bits_are, bits_many, size_is, source_is, taken_is, taken_length, written_is}
+use Rattle.multi_mmc.proofs.LiteralAnswers.{literal_refused, literal_taken, translated, many_needed, many_ran, two_needed, two_ran}
+use Rattle.multi_mmc.proofs.Translated.{bits_are, bits_many, size_is, source_is, taken_is, taken_length, written_is}
 use Rattle.multi_mmc.proofs.multi_mmc_literal.Goals as goal
 
 pub returns-then-number-ne-DONE : goal.returns-then-number-ne-DONE
@@ -20,75 +20,41 @@ returns-then-number-ne-DONE c =
 
 pub slice_bounds-samples-end : goal.slice_bounds-samples-end
 slice_bounds-samples-end c =
-    let done : c.literal_refusal-number.result ≡ 0 = c.if-number-ne-DONE.false in
-    let ran : Taken c.args.symbols.now c.args.out.now c.args.space.now = literal_taken _ _ _ c.literal_refusal-number.ensures done in
+    let ran = literal_taken _ _ _ c.literal_refusal-number.ensures c.if-number-ne-DONE.false in
     omega (arith, ran.room)
 
 pub slice_bounds-samples-end-2 : goal.slice_bounds-samples-end-2
 slice_bounds-samples-end-2 c =
-    let done : c.literal_refusal-number.result ≡ 0 = c.if-number-ne-DONE.false in
-    let ran : Taken c.args.symbols.now c.args.out.now c.args.space.now = literal_taken _ _ _ c.literal_refusal-number.ensures done in
-    let translation : Translation c.args.symbols.now c.args.out.now c.from-alphabet.result c.value_sorted_alphabet-found.new.out = record {
-      fits = ran.fits;
-      room = ran.room;
-      answers = c.from-alphabet.ensures ∙ c.value_sorted_alphabet-found.ensures.0;
-      leaves = c.value_sorted_alphabet-found.ensures.1;
-    } in
+    let translation = translated _ _ _ c.literal_refusal-number.ensures c.if-number-ne-DONE.false (c.from-alphabet.ensures ∙ c.value_sorted_alphabet-found.ensures.0) c.value_sorted_alphabet-found.ensures.1 in
     taken_length translation
 
 pub new-requires : goal.new-requires
 new-requires c =
-    let done : c.literal_refusal-number.result ≡ 0 = c.if-number-ne-DONE.false in
-    let ran : Taken c.args.symbols.now c.args.out.now c.args.space.now = literal_taken _ _ _ c.literal_refusal-number.ensures done in
-    let translation : Translation c.args.symbols.now c.args.out.now c.from-alphabet.result c.value_sorted_alphabet-found.new.out = record {
-      fits = ran.fits;
-      room = ran.room;
-      answers = c.from-alphabet.ensures ∙ c.value_sorted_alphabet-found.ensures.0;
-      leaves = c.value_sorted_alphabet-found.ensures.1;
-    } in
+    let translation = translated _ _ _ c.literal_refusal-number.ensures c.if-number-ne-DONE.false (c.from-alphabet.ensures ∙ c.value_sorted_alphabet-found.ensures.0) c.value_sorted_alphabet-found.ensures.1 in
     source_is translation
 
 pub bits_estimate-requires : goal.bits_estimate-requires
 bits_estimate-requires c =
     let bytes : Bytes c.args.symbols.now = λ i l. omega (arith, c.type_inv.symbols i) in
-    let done : c.literal_refusal-number.result ≡ 0 = c.if-number-ne-DONE.false in
-    let ran : Taken c.args.symbols.now c.args.out.now c.args.space.now = literal_taken _ _ _ c.literal_refusal-number.ensures done in
-    let translation : Translation c.args.symbols.now c.args.out.now c.from-alphabet.result c.value_sorted_alphabet-found.new.out = record {
-      fits = ran.fits;
-      room = ran.room;
-      answers = c.from-alphabet.ensures ∙ c.value_sorted_alphabet-found.ensures.0;
-      leaves = c.value_sorted_alphabet-found.ensures.1;
-    } in
+    let ran = literal_taken _ _ _ c.literal_refusal-number.ensures c.if-number-ne-DONE.false in
+    let translation = translated _ _ _ c.literal_refusal-number.ensures c.if-number-ne-DONE.false (c.from-alphabet.ensures ∙ c.value_sorted_alphabet-found.ensures.0) c.value_sorted_alphabet-found.ensures.1 in
     let few : distinct c.args.symbols.now ≤ 2 = omega (arith, size_is translation, c.if-binary.true) in
     (omega (arith, ran.many, ap length c.new.ensures, bits_many translation bytes few), rw (two_needed c.args.symbols.now few) at ran.work)
 
 pub returns-then-binary : goal.returns-then-binary
 returns-then-binary c =
     let bytes : Bytes c.args.symbols.now = λ i l. omega (arith, c.type_inv.symbols i) in
-    let done : c.literal_refusal-number.result ≡ 0 = c.if-number-ne-DONE.false in
-    let ran : Taken c.args.symbols.now c.args.out.now c.args.space.now = literal_taken _ _ _ c.literal_refusal-number.ensures done in
-    let translation : Translation c.args.symbols.now c.args.out.now c.from-alphabet.result c.value_sorted_alphabet-found.new.out = record {
-      fits = ran.fits;
-      room = ran.room;
-      answers = c.from-alphabet.ensures ∙ c.value_sorted_alphabet-found.ensures.0;
-      leaves = c.value_sorted_alphabet-found.ensures.1;
-    } in
+    let translation = translated _ _ _ c.literal_refusal-number.ensures c.if-number-ne-DONE.false (c.from-alphabet.ensures ∙ c.value_sorted_alphabet-found.ensures.0) c.value_sorted_alphabet-found.ensures.1 in
     let few : distinct c.args.symbols.now ≤ 2 = omega (arith, size_is translation, c.if-binary.true) in
     let bits = c.new.ensures ∙ bits_are translation bytes few in
-    two_ran c.args.symbols.now c.args.out.now c.args.space.now c.literal_refusal-number.ensures done (written_is translation) few
+    two_ran c.args.symbols.now c.args.out.now c.args.space.now c.literal_refusal-number.ensures c.if-number-ne-DONE.false (written_is translation) few
     (c.bits_estimate.ensures.value ∙ ap bits_estimate bits)
     (c.bits_estimate.ensures.counters_after ∙ ap (λ (b : List ℕ). final levels cap b c.args.space.now) bits)
 
 pub store_estimate-requires : goal.store_estimate-requires
 store_estimate-requires c =
-    let done : c.literal_refusal-number.result ≡ 0 = c.if-number-ne-DONE.false in
-    let ran : Taken c.args.symbols.now c.args.out.now c.args.space.now = literal_taken _ _ _ c.literal_refusal-number.ensures done in
-    let translation : Translation c.args.symbols.now c.args.out.now c.from-alphabet.result c.value_sorted_alphabet-found.new.out = record {
-      fits = ran.fits;
-      room = ran.room;
-      answers = c.from-alphabet.ensures ∙ c.value_sorted_alphabet-found.ensures.0;
-      leaves = c.value_sorted_alphabet-found.ensures.1;
-    } in
+    let ran = literal_taken _ _ _ c.literal_refusal-number.ensures c.if-number-ne-DONE.false in
+    let translation = translated _ _ _ c.literal_refusal-number.ensures c.if-number-ne-DONE.false (c.from-alphabet.ensures ∙ c.value_sorted_alphabet-found.ensures.0) c.value_sorted_alphabet-found.ensures.1 in
     let more : 2 < distinct c.args.symbols.now = omega (arith, size_is translation, c.if-binary.false) in
     let t = ran in
     let l = taken_length translation in
@@ -96,16 +62,9 @@ store_estimate-requires c =
 
 pub returns : goal.returns
 returns c =
-    let done : c.literal_refusal-number.result ≡ 0 = c.if-number-ne-DONE.false in
-    let ran : Taken c.args.symbols.now c.args.out.now c.args.space.now = literal_taken _ _ _ c.literal_refusal-number.ensures done in
-    let translation : Translation c.args.symbols.now c.args.out.now c.from-alphabet.result c.value_sorted_alphabet-found.new.out = record {
-      fits = ran.fits;
-      room = ran.room;
-      answers = c.from-alphabet.ensures ∙ c.value_sorted_alphabet-found.ensures.0;
-      leaves = c.value_sorted_alphabet-found.ensures.1;
-    } in
+    let translation = translated _ _ _ c.literal_refusal-number.ensures c.if-number-ne-DONE.false (c.from-alphabet.ensures ∙ c.value_sorted_alphabet-found.ensures.0) c.value_sorted_alphabet-found.ensures.1 in
     let more : 2 < distinct c.args.symbols.now = omega (arith, size_is translation, c.if-binary.false) in
-    many_ran c.args.symbols.now c.args.out.now c.args.space.now c.literal_refusal-number.ensures done (written_is translation) more
+    many_ran c.args.symbols.now c.args.out.now c.args.space.now c.literal_refusal-number.ensures c.if-number-ne-DONE.false (written_is translation) more
     (c.store_estimate.ensures.value
     ∙ ap (λ (s : List ℕ). store_estimate s c.from-alphabet.result.size) (taken_is translation)
     ∙ ap (store_estimate (sorted c.args.symbols.now)) (size_is translation))
