@@ -1,24 +1,15 @@
 // The bits of a capture, highest first of each symbol.
-ghost use Rattle.std.specs.Prelude.{◌≡◌, ◌+◌, ◌*◌, ◌-◌, ◌<◌, ◌≤◌, ◌&&◌, eqb, ltb, get_or, length};
-ghost use Rattle.capture.specs.Limit.{no_width, symbol_limit};
+ghost use Rattle.std.specs.Prelude.{◌≡◌, ◌<◌, ◌&&◌, eqb, ltb, get_or, length};
+ghost use Rattle.capture.specs.Limit.{no_width};
 ghost use Rattle.capture.specs.Bits.{first_wide, too_wide_at};
-ghost use Rattle.capture.specs.Inner.Spots.{next_spot, spot_bit, spot_of};
 ghost use Rattle.capture.specs.Inner.Sources.{place_in};
 ghost use Rattle.capture.specs.Reader.{bit_read, bit_read_of};
 
-use crate::Spot;
 use crate::source::Source;
 use answer::Refusal;
 
 // The largest number of symbols of a capture.
 pub const SYMBOL_LIMIT: usize = 16_777_216;
-
-// A symbol as an index.
-pub fn wide(x: u8) -> usize
-    ensures { result ≡ x }
-{
-    usize::from(x)
-}
 
 // Whether a width is none: 0, as a field that was left empty, or more bits than a byte has.
 #[tactic(auto, unfolding(crate::specs::Limit::no_width))]
@@ -26,45 +17,6 @@ pub fn no_width(width: u8) -> bool
     ensures { result ≡ no_width width }
 {
     width == 0 || 8 < width
-}
-
-// The spot of bit 0.
-pub fn first_spot(width: u32) -> Spot
-    requires { 0 < width }
-    ensures { result ≡ spot_of width 0 }
-{
-    Spot {
-        at: 0,
-        after: width - 1,
-    }
-}
-
-// The spot of the bit after that of s.
-pub fn next_spot(width: u32, s: Spot) -> Spot
-    requires width_nonzero { 0 < width }
-    requires at_lt_symbol_limit { s.at < symbol_limit }
-    ensures { result ≡ next_spot width s }
-{
-    if s.after == 0 {
-        Spot {
-            at: s.at + 1,
-            after: width - 1,
-        }
-    } else {
-        Spot {
-            at: s.at,
-            after: s.after - 1,
-        }
-    }
-}
-
-// The bit at a spot.
-pub fn bit_at(symbols: &[u8], s: Spot) -> u8
-    requires { (s.at < length symbols.now) × (s.after < 8) }
-    ensures { result ≡ spot_bit symbols.now s }
-{
-    let at = s.at;
-    (symbols[at] >> s.after) % 2
 }
 
 // The first place of a symbol above 1.

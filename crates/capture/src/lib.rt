@@ -37,10 +37,3 @@ impl From<Result<u8, Refusal>> for BitRead {
         }
     }
 }
-
-// Where a bit stands: its byte, and how many of the bits taken of that byte come after it.
-#[derive(Clone, Copy)]
-pub struct Spot {
-    pub at: usize,
-    pub after: u32,
-}
