@@ -19,6 +19,7 @@ fn times_power(y: f64, x: f64, n: u64) -> f64
 }
 
 // x ^ n.
+// Kept: std's powi does the same for an i32, and the n of the C interface is any u64.
 pub fn power(x: f64, n: u64) -> f64
     ensures { result ≡ power_of x n }
 {

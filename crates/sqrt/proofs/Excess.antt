@@ -2,7 +2,7 @@
 -- 1 or 2 q. Assumes nothing.
 use mathlib.Core.Path.{◌≡◌, sym, ap, ◌∙◌}
 use Prim.Native.Nat.{ℕ, ◌+◌, ◌-◌, ◌*◌, ◌/◌, ◌%◌, ◌^◌, ◌≤◌, ◌<◌}
-use native.Mathlib.Nat.{lt_of_le_of_lt, mul-le-mul}
+use native.Mathlib.Nat.{lt_of_le_of_lt}
 use native.Mathlib.Omega.{arith}
 use Rattle.sqrt.specs.Root.{root}
 use Rattle.sqrt.proofs.Roots.{root_is, sq_suc, sq_dbl, sq_lt_back}
@@ -55,27 +55,6 @@ module _ (q : ℕ) (h : q < 2 ^ 53) where
 
   abbrev b : ℕ
   b = q % 2 ^ 26
-
-  pub high_square : a * a ≤ 2 ^ 54
-  high_square = mul-le-mul high high
-    where
-      high : a ≤ 2 ^ 27
-      high = omega arith
-
-  pub mixed : a * b ≤ 2 ^ 53
-  mixed = mul-le-mul high low
-    where
-      high : a ≤ 2 ^ 27
-      high = omega arith
-
-      low : b ≤ 2 ^ 26
-      low = omega arith
-
-  pub low_square : b * b ≤ 2 ^ 52
-  low_square = mul-le-mul low low
-    where
-      low : b ≤ 2 ^ 26
-      low = omega arith
 
   pub over_is : (m : ℕ) → a * a ≤ m → a * b * 2 ≤ (m - a * a) * 2 ^ 26 + a → b * b ≤ ((m - a * a) * 2 ^ 26 + a - a * b * 2) * 2 ^ 26 + b
       → Over m q (((m - a * a) * 2 ^ 26 + a - a * b * 2) * 2 ^ 26 + b - b * b)

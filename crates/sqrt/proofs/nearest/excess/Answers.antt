@@ -1,36 +1,31 @@
--- `sqrt::nearest::excess` meets its contract: the difference is taken from the high half of q down, and nowhere goes below 0. Assumes nothing.
-use mathlib.Core.Path.{refl}
-use mathlib.Core.Logic.{inl, inr}
-use native.Mathlib.Omega.{arith}
-use Rattle.sqrt.proofs.Excess.{high_square, mixed, low_square, over_is}
+-- `sqrt::nearest::excess` meets its contract: the difference is taken from the high half of q down, and is none where it would go below 0. Assumes nothing.
+use mathlib.Core.Path.{◌≡◌, sym, subst}
+use Prim.Native.Nat.{ℕ, ◌+◌, ◌-◌, ◌*◌, ◌/◌, ◌%◌, ◌^◌, ◌≤◌, ◌<◌}
+use Rattle.std.specs.Option.{SomeIff}
+use Rattle.std.specs.Prelude.{Option, Some, None, IfSome}
+use Rattle.sqrt.proofs.Excess.{Over, over_is}
 use Rattle.sqrt.proofs.nearest.excess.Goals as goal
 
-pub overflow_mul-a : goal.overflow_mul-a
-overflow_mul-a c = omega (arith, high_square c.args.q c.requires.0)
+last : (m q : ℕ) (o : Option ℕ) (t s : ℕ) → SomeIff o (s ≤ t) (t - s) → (s ≤ t → Over m q (t - s)) → IfSome o (λ over. Over m q over)
+last m q None t s e f = tt
+last m q (Some x) t s e f = subst (Over m q) (sym e.1) (f e.0)
 
-pub returns-then-m-a : goal.returns-then-m-a
-returns-then-m-a c = inl refl
+module _ (q : ℕ) (l : q < 2 ^ 53) where
+  abbrev a : ℕ
+  a = q / 2 ^ 26
 
-pub returns-then-high-ge1073741824 : goal.returns-then-high-ge1073741824
-returns-then-high-ge1073741824 c = inl refl
+  abbrev b : ℕ
+  b = q % 2 ^ 26
 
-pub overflow_mul-twice : goal.overflow_mul-twice
-overflow_mul-twice c = omega (arith, mixed c.args.q c.requires.0)
-
-pub overflow_mul-twice-2 : goal.overflow_mul-twice-2
-overflow_mul-twice-2 c = omega (arith, mixed c.args.q c.requires.0)
-
-pub returns-then-middle-twice : goal.returns-then-middle-twice
-returns-then-middle-twice c = inl refl
-
-pub returns-then-low-ge1073741824 : goal.returns-then-low-ge1073741824
-returns-then-low-ge1073741824 c = inl refl
-
-pub overflow_mul-b : goal.overflow_mul-b
-overflow_mul-b c = omega (arith, low_square c.args.q c.requires.0)
-
-pub returns-then-all-b : goal.returns-then-all-b
-returns-then-all-b c = inl refl
+  by_parts : (m high low : ℕ) → (a * a ≤ m) × (high ≡ m - a * a) → (a * b * 2 ≤ high * 2 ^ 26 + a) × (low ≡ high * 2 ^ 26 + a - a * b * 2)
+      → b * b ≤ low * 2 ^ 26 + b → Over m q (low * 2 ^ 26 + b - b * b)
+  by_parts m high low h w k =
+      let j = subst (λ (x : ℕ). (a * b * 2 ≤ x * 2 ^ 26 + a) × (low ≡ x * 2 ^ 26 + a - a * b * 2)) h.1 w in
+      let i = subst (λ (x : ℕ). b * b ≤ x * 2 ^ 26 + b) j.1 k in
+      subst (λ (x : ℕ). Over m q (x * 2 ^ 26 + b - b * b)) (sym j.1) (over_is q l m h.0 j.0 i)
 
 pub returns : goal.returns
-returns c = inr (over_is c.args.q c.requires.0 c.args.m (omega arith) (omega arith) (omega arith))
+returns c =
+    let q = c.args.q in
+    last c.args.m q _ (c.in_ok-low.low * 2 ^ 26 + q % 2 ^ 26) (q % 2 ^ 26 * (q % 2 ^ 26)) c.checked_sub-3.ensures
+    (by_parts q c.requires.0 c.args.m c.in_ok-high.high c.in_ok-low.low c.in_ok-high.ensures c.in_ok-low.ensures)

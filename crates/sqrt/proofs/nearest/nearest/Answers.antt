@@ -1,39 +1,20 @@
 -- `sqrt::nearest::nearest` meets its contract: the tests on the excess of the guess say which of three numbers is the nearest, and else the root's
 -- digits are found one by one.
 -- Assumes nothing.
-use mathlib.Core.Path.{◌≡◌}
-use mathlib.Core.Logic.{◌⊎◌, inl, inr}
-use Prim.Native.Nat.{ℕ, ◌-◌, ◌<◌}
+use Prim.Native.Nat.{◌-◌}
 use native.Mathlib.Omega.{arith}
 use Rattle.sqrt.proofs.Excess.{over_nearest, over_second, over_third}
 use Rattle.sqrt.proofs.Rounded.{root_54}
 use Rattle.sqrt.proofs.nearest.nearest.Goals as goal
 
--- an excess above 0 is the difference
-known : {A : Type 0} {w : ℕ} → (w ≡ 0) ⊎ A → 0 < w → A
-known (inl e) h = absurd (none e h)
-  where
-    none : {w : ℕ} → w ≡ 0 → 0 < w → ⊥
-    none e h = omega arith
-known (inr a) h = a
-
 pub returns-then-over-q : goal.returns-then-over-q
-returns-then-over-q c =
-    let e = c.excess-over in
-    over_nearest c.args.m (c.args.guess - 1) e.result (known e.ensures (omega arith))
-    (omega arith) (omega arith)
+returns-then-over-q c = over_nearest c.args.m (c.args.guess - 1) c.in-Some.over c.in-Some.ensures (omega arith) (omega arith)
 
 pub returns-then-over-q-2 : goal.returns-then-over-q-2
-returns-then-over-q-2 c =
-    let e = c.excess-over in
-    over_second c.args.m (c.args.guess - 1) e.result
-    (known e.ensures (omega arith)) (omega arith) (omega arith)
+returns-then-over-q-2 c = over_second c.args.m (c.args.guess - 1) c.in-Some.over c.in-Some.ensures (omega arith) (omega arith)
 
 pub returns-then-over-q-3 : goal.returns-then-over-q-3
-returns-then-over-q-3 c =
-    let e = c.excess-over in
-    over_third c.args.m (c.args.guess - 1) e.result
-    (known e.ensures (omega arith)) (omega arith) (omega arith)
+returns-then-over-q-3 c = over_third c.args.m (c.args.guess - 1) c.in-Some.over c.in-Some.ensures (omega arith) (omega arith)
 
 pub overflow_add-result-2 : goal.overflow_add-result-2
-overflow_add-result-2 c = omega (arith, c.digits.ensures, root_54 c.args.m c.requires.0 c.requires.1)
+overflow_add-result-2 c = record { fits = omega (arith, c.digits.ensures, root_54 c.args.m c.requires.0 c.requires.1) }
