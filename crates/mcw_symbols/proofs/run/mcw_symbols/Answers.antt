@@ -47,8 +47,7 @@ advance-c-requires c =
 
 pub loop-i-preserved : goal.loop-i-preserved
 loop-i-preserved c =
-    let site = site_of c.requires c.loop-i-test.true c.loop-i.invariant.0 c.from-x.ensures c.spread-xs.ensures c.taking-part.ensures c.ask-heard.ensures in
-    (
+    let site = site_of c.requires c.loop-i-test.true c.loop-i.invariant.0 c.from-x.ensures c.spread-xs.ensures c.taking-part.ensures c.ask-heard.ensures in (
       gone_on site c.leave_all-gone.ensures c.enter-key.ensures c.advance-c.ensures,
       scored_next c.args.s.now c.loop-i.i c.loop-i.invariant.1 (site_told site c.tell-masks.ensures) c.score.ensures,
     )
