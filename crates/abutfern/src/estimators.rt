@@ -32,7 +32,7 @@ pub extern "C" fn abutfern_multi_mmc(
     ensures { (result ≡ mmc_bits symbols.now bits_per_symbol counters.old) ×
         (counters.new ≡ mmc_bits_space symbols.now bits_per_symbol counters.old) }
 {
-    multi_mmc::multi_mmc(symbols, bits_per_symbol, counters)
+    multi_mmc::multi_mmc(symbols, bits_per_symbol, counters).into()
 }
 
 // MultiMMC on symbols, translated into `out`, in lent work space.
@@ -46,5 +46,5 @@ pub extern "C" fn abutfern_multi_mmc_literal(
         (out.new ≡ mmc_literal_output symbols.now out.old space.old) ×
         (space.new ≡ mmc_literal_space symbols.now out.old space.old) }
 {
-    multi_mmc::multi_mmc_literal(symbols, out, space)
+    multi_mmc::multi_mmc_literal(symbols, out, space).into()
 }

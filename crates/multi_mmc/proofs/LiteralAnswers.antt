@@ -1,6 +1,13 @@
 -- What the literal track answers and leaves in lent memory, by the number it is refused with. Assumes nothing.
-use mathlib.Core.Path.{◌≡◌, ap, sym, ◌∙◌}
-use mathlib.Core.Bool.{true, false, ◌||◌}
+use mathlib.Core.Path.{◌≡◌, refl, ap, sym, ◌∙◌}
+use mathlib.Core.Bool.{Bool, true, false, cond, ◌||◌}
+use native.Mathlib.Omega.{arith}
+use Rattle.std.specs.Prelude.{Result, Ok, Err, IsErr, IsErrAnd}
+use Rattle.answer.specs.Results.{number_of, place_of, rated_answer, refused_by}
+use Rattle.answer.specs.declared.Rated.{Rated}
+use Rattle.answer.specs.declared.Refusal.{Refusal}
+use Rattle.answer.specs.declared.Refusal.TheVariants.{TooLong, TooShort, TooWide, Impossible, OutOfRange, NotRun, BadWidth, BadFrame, BadAnswer, BadState}
+use Rattle.capture.proofs.Reading.{is_refusal}
 use mathlib.Core.List.{List}
 use mathlib.Mathlib.Data.Bool.Basic.{or-eq-false-eq-eq-false-and-eq-false as neither}
 use Prim.Native.Nat.{ℕ, ◌≤◌, ◌<◌}
@@ -8,12 +15,13 @@ use borrow.Author.Tests.{eq-eqb, ne_eqb, le-leb, lt-leb, ltb-false}
 use lib.Dec.{eqb, ltb}
 use lib.ListN.{length}
 use Rattle.answer.proofs.Order.{passed}
-use Rattle.answer.specs.Numbers.{done, too_long, too_short, not_run}
+use Rattle.answer.specs.Numbers.{done, too_long, too_short, too_wide, not_run}
 use Rattle.answer.specs.Refused.{refused}
 use Rattle.answer.specs.declared.Answer.{Answer}
 use Rattle.alphabet.specs.Alphabet.{alphabet_of, distinct, output_of, sorted, written}
 use Rattle.alphabet.specs.declared.Alphabet.{Alphabet}
 use Rattle.multi_mmc.proofs.Translated.{Translation}
+use Rattle.capture.specs.Inner.Sources.{symbols_refusal}
 use Rattle.capture.specs.Limit.{over_limit, symbol_limit}
 use Rattle.mmc_bits.specs.Levels.{levels, cap}
 use Rattle.mmc_bits.specs.Space as BitSpace
@@ -29,6 +37,30 @@ use Rattle.multi_mmc.specs.Tracks.{
   needed,
   store_estimate,
 }
+
+-- a refusal but number 3 names no place
+placeless : (e : Refusal) → (number_of e ≡ too_wide → ⊥) → place_of e ≡ 0
+placeless TooLong n = refl
+placeless TooShort n = refl
+placeless (TooWide place) n = absurd (n refl)
+placeless Impossible n = refl
+placeless OutOfRange n = refl
+placeless NotRun n = refl
+placeless BadWidth n = refl
+placeless BadFrame n = refl
+placeless BadAnswer n = refl
+placeless BadState n = refl
+
+order_not_wide : (a b c : Bool) → cond a too_long (cond b not_run (cond c too_short done)) ≡ too_wide → ⊥
+order_not_wide true b c h = omega (arith, h)
+order_not_wide false true c h = omega (arith, h)
+order_not_wide false false true h = omega (arith, h)
+order_not_wide false false false h = omega (arith, h)
+
+-- a refusal that is passed on
+pub rated_refused : (r : Result Rated Refusal) (e : Refusal) → IsErr r × IsErrAnd r (λ x. x ≡ e) → rated_answer r ≡ refused_by e
+rated_refused (Ok x) e h = absurd (omega (arith, h.0))
+rated_refused (Err x) e h = ap refused_by h.1
 
 -- what is known of a capture that is not refused
 pub record Taken (s out space : List ℕ) : Type 0 where
@@ -71,14 +103,19 @@ module _ (s out space : List ℕ) {n : ℕ} (e : n ≡ literal_number s out spac
         leaves = leaves;
       }
 
+  number_not_wide : literal_number s out space ≡ too_wide → ⊥
+  unfolding literal_number
+  number_not_wide h = order_not_wide (over_limit s) (ltb (length s) least_samples) (ltb (length out) (length s) || ltb (length space) (needed s)) h
+
   abbrev Answered : Answer → List ℕ → List ℕ → Type 0
   Answered r out' space' = (r ≡ mmc_literal s out space) × (out' ≡ mmc_literal_output s out space) × (space' ≡ mmc_literal_space s out space)
 
-  pub literal_refused : (n ≡ 0 → ⊥) → {r : Answer} → r ≡ refused n → Answered r out space
+  pub literal_refused : (x : Refusal) → number_of x ≡ n → Answered (refused_by x) out space
   unfolding mmc_literal mmc_literal_output mmc_literal_space
-  literal_refused d p =
-      let f : eqb (literal_number s out space) done ≡ false = ne_eqb (literal_number s out space) 0 (λ q. d (e ∙ q)) in
-      (rw f (p ∙ ap refused e), rw f, rw f)
+  literal_refused x q =
+      let f : eqb (literal_number s out space) done ≡ false = ne_eqb (literal_number s out space) 0 (λ z. is_refusal x (q ∙ e ∙ z)) in
+      let p : place_of x ≡ 0 = placeless x (λ w. number_not_wide (sym (q ∙ e) ∙ w)) in
+      (rw f (rw p refl ∙ ap refused (q ∙ e)), rw f refl, rw f refl)
 
   module _ (z : n ≡ 0) where
     ran : eqb (literal_number s out space) done ≡ true
@@ -92,3 +129,9 @@ module _ (s out space : List ℕ) {n : ℕ} (e : n ≡ literal_number s out spac
       pub many_ran : 2 < distinct s → r ≡ store_estimate (sorted s) (distinct s) → space' ≡ StoreSpace.final levels space → Answered r out' space'
       unfolding mmc_literal mmc_literal_output mmc_literal_space literal_estimate
       many_ran l p q = (rw (ran, lt-leb (distinct s) 2 l) p, rw ran o, rw (ran, lt-leb (distinct s) 2 l) q)
+
+-- what `accept_symbols` says of a capture that it takes
+pub accepted : (s out space : List ℕ) {short : Bool} → short ≡ (ltb (length out) (length s) || ltb (length space) (needed s))
+    → done ≡ symbols_refusal s least_samples short → 0 ≡ literal_number s out space
+unfolding literal_number
+accepted s out space e z = z ∙ ap (symbols_refusal s least_samples) e

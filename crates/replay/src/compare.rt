@@ -137,13 +137,13 @@ impl<'a> Comparison<'a> {
 
     fn multi_mmc(self) -> Option<bool> {
         let mut space = [0; COUNTERS];
-        self.same_answer(multi_mmc::multi_mmc(self.capture, self.width, &mut space))
+        self.same_answer(multi_mmc::multi_mmc(self.capture, self.width, &mut space).into())
     }
 
     // Of at most two values: binary, so that it needs no more than the counters.
     fn multi_mmc_literal(self) -> Option<bool> {
         let mut out = [0; LONGEST];
         let mut space = [0; COUNTERS];
-        self.same_answer(multi_mmc::multi_mmc_literal(self.capture, &mut out, &mut space))
+        self.same_answer(multi_mmc::multi_mmc_literal(self.capture, &mut out, &mut space).into())
     }
 }
