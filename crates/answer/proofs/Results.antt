@@ -1,8 +1,9 @@
 -- The answer that C gets tells the result: nothing of a result is lost in it, so that a contract on the answer fixes the result. A float's record has no
 -- room for a place, and tells every result but a refusal that names one. Assumes nothing.
-use mathlib.Core.Path.{◌≡◌, refl}
+use mathlib.Core.Path.{◌≡◌, refl, subst}
 use mathlib.Core.Bool.{cond}
 use Prim.Native.Nat.{ℕ}
+use native.Mathlib.Omega.{arith}
 use lib.Dec.{eqb}
 use Rattle.std.specs.Prelude.{Float, Result, Ok, Err}
 use Rattle.answer.specs.Numbers.{done, too_long, too_short, too_wide, impossible, out_of_range, not_run, bad_width, bad_frame, bad_answer}
@@ -41,6 +42,32 @@ refusal_kept BadFrame = refl
 refusal_kept BadAnswer = refl
 refusal_kept BadState = refl
 
+-- a refusal is not told as what ran
+pub is_refusal : (e : Refusal) → number_of e ≡ done → ⊥
+is_refusal TooLong h = omega (arith, h)
+is_refusal TooShort h = omega (arith, h)
+is_refusal (TooWide place) h = omega (arith, h)
+is_refusal Impossible h = omega (arith, h)
+is_refusal OutOfRange h = omega (arith, h)
+is_refusal NotRun h = omega (arith, h)
+is_refusal BadWidth h = omega (arith, h)
+is_refusal BadFrame h = omega (arith, h)
+is_refusal BadAnswer h = omega (arith, h)
+is_refusal BadState h = omega (arith, h)
+
+-- only number 3 names a place
+pub placeless : (e : Refusal) → (number_of e ≡ too_wide → ⊥) → place_of e ≡ 0
+placeless TooLong n = refl
+placeless TooShort n = refl
+placeless (TooWide place) n = absurd (n refl)
+placeless Impossible n = refl
+placeless OutOfRange n = refl
+placeless NotRun n = refl
+placeless BadWidth n = refl
+placeless BadFrame n = refl
+placeless BadAnswer n = refl
+placeless BadState n = refl
+
 -- what ran, or the refusal of the answer's number and place
 abbrev pub held : {A : Type 0} → A → ℕ → ℕ → Result A Refusal
 held x n place = cond (eqb n done) (Ok x) (Err (refusal_at n place))
@@ -77,16 +104,7 @@ rated_tells (Err e) = held_kept _ e
 
 -- a record with no room for a place
 pub plain_kept : {A : Type 0} (x : A) (e : Refusal) → (number_of e ≡ too_wide → ⊥) → held x (number_of e) 0 ≡ Err e
-plain_kept x TooLong n = refl
-plain_kept x TooShort n = refl
-plain_kept x (TooWide place) n = absurd (n refl)
-plain_kept x Impossible n = refl
-plain_kept x OutOfRange n = refl
-plain_kept x NotRun n = refl
-plain_kept x BadWidth n = refl
-plain_kept x BadFrame n = refl
-plain_kept x BadAnswer n = refl
-plain_kept x BadState n = refl
+plain_kept x e n = subst (λ (p : ℕ). held x (number_of e) p ≡ Err e) (placeless e n) (held_kept x e)
 
 abbrev pub float_in : Value → Result Float Refusal
 float_in v = held v.value v.number 0

@@ -3,8 +3,7 @@
 
 ghost use Rattle.std.specs.Prelude.{◌≡◌};
 ghost use Rattle.answer.specs.Numbers.{given};
-ghost use Rattle.answer.specs.Predicted.{predicted_by};
-ghost use Rattle.answer.specs.Refused.{minus_one, refused, refused_at, refused_solved, refused_value};
+ghost use Rattle.answer.specs.Refused.{minus_one};
 ghost use Rattle.answer.specs.Results.{number_of, place_of, refused_by};
 
 // The answer numbers of documents 01 and 02.
@@ -147,10 +146,7 @@ pub struct Solved {
 pub fn is_given(number: u64) -> bool
     ensures { result ≡ given number }
 {
-    if number <= BAD_WIDTH {
-        return true;
-    }
-    number == BAD_STATE
+    number <= BAD_WIDTH || number == BAD_STATE
 }
 
 // What stands where there is no float: -1.0.
@@ -158,76 +154,6 @@ pub fn no_value() -> f64
     ensures { result ≡ minus_one }
 {
     -1.0
-}
-
-// A refusal that names a place: every count 0, every float -1.0.
-pub fn refused_at(number: u64, place: u64) -> Answer
-    ensures { result ≡ refused_at number place }
-{
-    let none = no_value();
-    let estimate = Estimate {
-        c: 0,
-        n: 0,
-        max_run_len: 0,
-        p_global: none,
-        p_global_prime: none,
-        p_local: none,
-        min_entropy: none,
-    };
-    Answer {
-        number,
-        place,
-        k: 0,
-        rounds: 0,
-        winner: 0,
-        score: 0,
-        estimate,
-    }
-}
-
-// A refusal by number.
-pub fn refused_as(number: u64) -> Answer
-    ensures { result ≡ refused number }
-{
-    refused_at(number, 0)
-}
-
-// An answer with who predicted: one other than 0 has no winner.
-pub fn predicted_by(a: Answer, winner: u64, score: u64) -> Answer
-    ensures { result ≡ predicted_by winner score a }
-{
-    let estimate = a.estimate;
-    if a.number != DONE {
-        return a;
-    }
-    Answer {
-        number: DONE,
-        place: a.place,
-        k: a.k,
-        rounds: a.rounds,
-        winner,
-        score,
-        estimate,
-    }
-}
-
-pub fn refused_value(number: u64) -> Value
-    ensures { result ≡ refused_value number }
-{
-    Value {
-        number,
-        value: no_value(),
-    }
-}
-
-pub fn refused_solved(number: u64) -> Solved
-    ensures { result ≡ refused_solved number }
-{
-    Solved {
-        number,
-        rounds: 0,
-        value: no_value(),
-    }
 }
 
 // The answer of a refusal: every count 0, every float -1.0.
@@ -262,18 +188,11 @@ impl From<Result<Estimated, Refusal>> for Answer {
     ghost from_gives = { λ found answer. answer ≡ answer_of found };
 
     fn from(found: Result<Estimated, Refusal>) -> Answer {
-        match found {
-            Ok(e) => Answer {
-                number: DONE,
-                place: 0,
-                k: e.k,
-                rounds: e.rounds,
-                winner: 0,
-                score: 0,
-                estimate: e.estimate,
-            },
-            Err(refusal) => refused_by(refusal),
-        }
+        Answer::from(found.map(|estimated| Rated {
+            estimated,
+            winner: 0,
+            score: 0,
+        }))
     }
 }
 
