@@ -10,7 +10,7 @@ use lib.ListN.{length}
 use Rattle.answer.specs.Numbers.{done, too_long, too_short}
 use Rattle.answer.specs.Results.{number_of}
 use Rattle.answer.specs.declared.Refusal.{Refusal}
-use Rattle.capture.proofs.Reading.{is_refusal}
+use Rattle.answer.proofs.Results.{is_refusal}
 use Rattle.std.specs.Prelude.{Ok, Err}
 use Rattle.alphabet.specs.Alphabet.{alphabet_in, alphabet_number, alphabet_of, output_of, written, distinct}
 use Rattle.capture.specs.Limit.{symbol_limit, over_limit}

@@ -8,6 +8,7 @@ use borrow.Author.Tests.{le-leb, lt-leb}
 use lib.Dec.{eqb, ltb, leb}
 use lib.ListN.{length, get_or}
 use Rattle.answer.specs.Numbers.{done, too_long, too_short, too_wide, bad_width}
+use Rattle.answer.proofs.Results.{is_refusal}
 use Rattle.answer.specs.Results.{number_of, place_of}
 use Rattle.answer.specs.declared.Refusal.{Refusal}
 use Rattle.answer.specs.declared.Refusal.TheVariants.{TooLong, TooShort, TooWide, Impossible, OutOfRange, NotRun, BadWidth, BadFrame, BadAnswer, BadState}
@@ -17,19 +18,6 @@ use Rattle.capture.specs.Limit.{no_width, over_limit}
 use Rattle.capture.specs.Inner.Sources.{source_refusal}
 use Rattle.capture.specs.Reader.{bit_read, bit_read_of, refused_bit}
 use Rattle.capture.specs.declared.BitRead.{BitRead}
-
--- no refusal is told by 0
-pub is_refusal : (e : Refusal) → number_of e ≡ 0 → ⊥
-is_refusal TooLong h = omega arith
-is_refusal TooShort h = omega arith
-is_refusal (TooWide place) h = omega arith
-is_refusal Impossible h = omega arith
-is_refusal OutOfRange h = omega arith
-is_refusal NotRun h = omega arith
-is_refusal BadWidth h = omega arith
-is_refusal BadFrame h = omega arith
-is_refusal BadAnswer h = omega arith
-is_refusal BadState h = omega arith
 
 -- an order of refusals that begins with those of a source: by the number of those
 pub refused_first : {A : Type 0} (a b : Bool) (x : A) (f : ℕ → A) → {n : ℕ} → n ≡ cond a too_long (cond b bad_width done) → (n ≡ 0 → ⊥)

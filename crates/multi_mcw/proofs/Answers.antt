@@ -9,12 +9,12 @@ use lib.ListN.{length, take}
 use borrow.Author.Tests.{eq-eqb, ne_eqb, ltb-false}
 use Rattle.std.specs.Prelude.{Result, Ok, Err, IsErr, IsErrAnd}
 use Rattle.answer.proofs.Order.{passed}
+use Rattle.answer.proofs.Results.{is_refusal, placeless}
 use Rattle.answer.specs.Numbers.{done, too_long, too_short, too_wide, not_run}
 use Rattle.answer.specs.Refused.{refused_at}
 use Rattle.answer.specs.Results.{number_of, place_of, rated_answer, refused_by}
 use Rattle.answer.specs.declared.Rated.{Rated}
 use Rattle.answer.specs.declared.Refusal.{Refusal}
-use Rattle.answer.specs.declared.Refusal.TheVariants.{TooLong, TooShort, TooWide, Impossible, OutOfRange, NotRun, BadWidth, BadFrame, BadAnswer, BadState}
 use Rattle.alphabet.specs.Alphabet.{alphabet_in, alphabet_of, dense, distinct, output_of, written}
 use Rattle.alphabet.proofs.Alphabets.{Bytes}
 use Rattle.capture.specs.Bits.{bits_of}
@@ -22,7 +22,6 @@ use Rattle.capture.specs.Inner.Sources.{all_bits, symbols_refusal}
 use Rattle.capture.specs.Limit.{over_limit, symbol_limit}
 use Rattle.capture.specs.Refusals.{refused_on}
 use Rattle.capture.proofs.Bitstring.{bits_length}
-use Rattle.capture.proofs.Reading.{is_refusal}
 use Rattle.capture.proofs.Refusals.{taken}
 use Rattle.capture.proofs.Sources.{counted, whole}
 use Rattle.race.specs.declared.Outcome.{Outcome}
@@ -58,19 +57,6 @@ module _ (s : List ℕ) (w : ℕ) where
       (h ∙ rating-is (bits_of s w n) 2 (g ∙ ap outcome_of (f ∙ whole s w)) (counted s w e f ∙ sym (bits_length s w n)) refl)
 
 -- ---- the literal track
-
--- a refusal but number 3 names no place
-placeless : (e : Refusal) → (number_of e ≡ too_wide → ⊥) → place_of e ≡ 0
-placeless TooLong n = refl
-placeless TooShort n = refl
-placeless (TooWide place) n = absurd (n refl)
-placeless Impossible n = refl
-placeless OutOfRange n = refl
-placeless NotRun n = refl
-placeless BadWidth n = refl
-placeless BadFrame n = refl
-placeless BadAnswer n = refl
-placeless BadState n = refl
 
 order_not_wide : (a b c : Bool) → cond a too_long (cond b not_run (cond c too_short done)) ≡ too_wide → ⊥
 order_not_wide true b c h = omega (arith, h)

@@ -54,17 +54,3 @@ pub largest_is : (c n run k : ℕ) {g prime floor local x : Float} → g ≡ p_g
     → local ≡ p_local floor run n → x ≡ larger floor local → x ≡ largest c n run k
 unfolding largest
 largest_is c n run k a b d e f = rw (f, e, d, b, a)
-
--- ---- no refusal has number 0
-
-pub numbered : (e : Refusal) → number_of e ≡ done → ⊥
-numbered TooLong h = omega (arith, h)
-numbered TooShort h = omega (arith, h)
-numbered (TooWide place) h = omega (arith, h)
-numbered Impossible h = omega (arith, h)
-numbered OutOfRange h = omega (arith, h)
-numbered NotRun h = omega (arith, h)
-numbered BadWidth h = omega (arith, h)
-numbered BadFrame h = omega (arith, h)
-numbered BadAnswer h = omega (arith, h)
-numbered BadState h = omega (arith, h)

@@ -1,6 +1,6 @@
 -- A start: the cutoff's own number is the start's, and a start that is taken leaves what no samples leave, since a cutoff is found exactly in range. Assumes
 -- nothing.
-use mathlib.Core.Path.{◌≡◌, refl, sym, ap, ◌∙◌, subst}
+use mathlib.Core.Path.{◌≡◌, refl, sym, ap, ◌∙◌}
 use mathlib.Core.Bool.{Bool, true, false, cond}
 use mathlib.Core.List.{[]}
 use Prim.Native.Nat.{ℕ}
@@ -9,9 +9,9 @@ use native.Mathlib.Omega.{arith}
 use lib.Ieee.{Float}
 use Rattle.std.specs.Prelude.{Ok, Err}
 use Rattle.answer.specs.Numbers.{done, out_of_range}
-use Rattle.answer.specs.Results.{number_of, place_of}
+use Rattle.answer.specs.Results.{number_of}
 use Rattle.answer.specs.declared.Refusal.{Refusal}
-use Rattle.answer.proofs.Results.{held, held_kept}
+use Rattle.answer.proofs.Results.{is_refusal}
 use Rattle.cutoff.specs.Cutoff.{cutoff_of, in_range, told}
 use Rattle.cutoff.specs.declared.Cutoff.{Cutoff}
 use Rattle.repetition.specs.declared.step.RepetitionTest.{RepetitionTest}
@@ -42,19 +42,12 @@ module _ (h : Float) (b : Bool) (e : in_range h ≡ b) where
   unfolding begun
   leaves st = ap (λ (t : Bool). cond t (left (since h [])) st) e
 
--- a refusal's number is not that of what is done
-refused_not_done : (e : Refusal) → number_of e ≡ done → ⊥
-refused_not_done e z =
-    let none : ℕ = 0 in
-    let same : Ok none ≡ Err e = subst (λ (n : ℕ). held none n (place_of e) ≡ Err e) z (held_kept none e) in
-    cc
-
 module _ (st : RepetitionTest) (h : Float) where
   pub refused : (e : Refusal) → told (Err e) ≡ cutoff_of h → Says st h (number_of e) st
   refused e k = by (in_range h) refl
     where
       by : (b : Bool) → in_range h ≡ b → Says st h (number_of e) st
-      by true t = absurd (refused_not_done e (ap (λ (a : Cutoff). a.number) (k ∙ found h true t)))
+      by true t = absurd (is_refusal e (ap (λ (a : Cutoff). a.number) (k ∙ found h true t)))
       by false t = (ap (λ (a : Cutoff). a.number) (k ∙ found h false t) ∙ sym (answers h false t), sym (leaves h false t st))
 
   pub taken : (n : ℕ) → told (Ok n) ≡ cutoff_of h → Says st h done (fresh n)
