@@ -8,8 +8,8 @@ use native.Mathlib.Omega.{arith}
 use lib.ListN.{length, get_or, drop, drop_of_length-le}
 use lib.Seq.{drop-cons}
 use Rattle.std.proofs.Common.{add-one}
-use Rattle.capture.specs.Bits.{bit_at, bits_of}
-use Rattle.capture.specs.Inner.Sources.{AreBits, IsSource, IsWalk, all_bits, bits_left}
+use Rattle.capture.specs.Bits.{bit_at, bits_of, all_bits}
+use Rattle.capture.specs.Inner.Sources.{AreBits, IsSource, IsWalk, bits_left}
 use Rattle.capture.proofs.Bitstring.{bits_length, bits_at, bits_narrow, bit_small}
 use Rattle.capture.proofs.Limits.{bits_small}
 use Rattle.capture.proofs.Walking.{quotient_is, remainder_is}

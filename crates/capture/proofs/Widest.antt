@@ -11,8 +11,7 @@ use Rattle.std.specs.List.{position_or_len}
 use Rattle.std.proofs.lemmas.List.Recursion.{is_position_or_len}
 use Rattle.std.proofs.lemmas.List.Sums.{prefix_len-le-length}
 use Rattle.std.specs.Prelude.{Some, None}
-use Rattle.capture.specs.Bits.{first_wide, too_wide_at, wide}
-use Rattle.capture.specs.Inner.Sources.{place_in}
+use Rattle.capture.specs.Bits.{first_wide, too_wide_at, wide, place_in}
 
 above_one : (x n : ℕ) → cond (leb x 1) (suc n) 0 ≡ cond (ltb 1 x) 0 (1 + n)
 above_one x n = go (leb x 1) refl

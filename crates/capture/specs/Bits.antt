@@ -1,5 +1,5 @@
 -- What bit i of a capture is, and how many there are. Definitions only.
-use Rattle.std.specs.Prelude.{ℕ, zero, suc, ◌*◌, ◌-◌, ◌/◌, ◌%◌, ◌^◌, Bool, true, false, cond, ◌&&◌, List, [], ◌∷◌, ◌++◌, leb, ltb, eqb, length, get_or}
+use Rattle.std.specs.Prelude.{ℕ, zero, suc, ◌*◌, ◌-◌, ◌/◌, ◌%◌, ◌^◌, Bool, true, false, cond, ◌&&◌, List, [], ◌∷◌, ◌++◌, leb, ltb, eqb, length, get_or, Option, Some, None}
 
 -- "the low bits of each byte, highest first": bit i stands in byte i / width, with width - 1 - i % width bits of that byte after it.
 -- At width 1 the bit of a byte that is at most 1 is the byte as it is.
@@ -36,3 +36,11 @@ wide symbols width = eqb width 1 && ltb (first_wide symbols) (length symbols)
 -- where the first symbol stands that is above what the width takes; the length where there is none
 abbrev pub too_wide_at : List ℕ → ℕ → ℕ
 too_wide_at symbols width = cond (eqb width 1) (first_wide symbols) (length symbols)
+
+-- the bits of a whole capture
+unfoldable pub all_bits : List ℕ → ℕ → List ℕ
+all_bits symbols width = bits_of symbols width (bit_count symbols width)
+
+-- a place of the list, or none past its end
+abbrev pub place_in : List ℕ → ℕ → Option ℕ
+place_in s i = cond (ltb i (length s)) (Some i) None

@@ -1,8 +1,7 @@
 // The bits of a capture, highest first of each symbol.
 ghost use Rattle.std.specs.Prelude.{◌≡◌, ◌<◌, ◌&&◌, eqb, ltb, get_or, length};
 ghost use Rattle.capture.specs.Limit.{no_width};
-ghost use Rattle.capture.specs.Bits.{first_wide, too_wide_at};
-ghost use Rattle.capture.specs.Inner.Sources.{place_in};
+ghost use Rattle.capture.specs.Bits.{first_wide, too_wide_at, place_in};
 ghost use Rattle.capture.specs.Reader.{bit_read, bit_read_of};
 
 use crate::source::Source;

@@ -1,8 +1,8 @@
 // Which captures a track takes.
 ghost use Rattle.std.specs.Prelude.{◌≡◌, MatchResult};
 ghost use Rattle.answer.specs.Results.{number_in, number_of, refused_by};
-ghost use Rattle.capture.specs.Inner.Sources.{all_bits, symbols_refusal};
-ghost use Rattle.capture.specs.Refusals.{bits_refusal, refused_on};
+ghost use Rattle.capture.specs.Refusals.{bits_refusal, refused_on, symbols_refusal};
+ghost use Rattle.capture.specs.Bits.{all_bits};
 
 use crate::bits::{SYMBOL_LIMIT, first_wide, too_wide_at};
 use crate::source::Source;

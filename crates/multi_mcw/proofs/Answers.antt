@@ -17,10 +17,9 @@ use Rattle.answer.specs.declared.Rated.{Rated}
 use Rattle.answer.specs.declared.Refusal.{Refusal}
 use Rattle.alphabet.specs.Alphabet.{alphabet_in, alphabet_of, dense, distinct, output_of, written}
 use Rattle.alphabet.proofs.Alphabets.{Bytes}
-use Rattle.capture.specs.Bits.{bits_of}
-use Rattle.capture.specs.Inner.Sources.{all_bits, symbols_refusal}
+use Rattle.capture.specs.Bits.{bits_of, all_bits}
 use Rattle.capture.specs.Limit.{over_limit, symbol_limit}
-use Rattle.capture.specs.Refusals.{refused_on}
+use Rattle.capture.specs.Refusals.{refused_on, symbols_refusal}
 use Rattle.capture.proofs.Bitstring.{bits_length}
 use Rattle.capture.proofs.Refusals.{taken}
 use Rattle.capture.proofs.Sources.{counted, whole}

@@ -9,8 +9,8 @@ use lib.Seq.{take_at}
 use Rattle.alphabet.specs.Alphabet.{alphabet_number, alphabet_of, distinct, output_of, rising, sorted, written}
 use Rattle.alphabet.specs.declared.Alphabet.{Alphabet}
 use Rattle.alphabet.proofs.Alphabets.{Bytes, sorted_below}
-use Rattle.capture.specs.Inner.Sources.{IsSource, all_bits}
-use Rattle.capture.specs.Bits.{bits_of}
+use Rattle.capture.specs.Inner.Sources.{IsSource}
+use Rattle.capture.specs.Bits.{bits_of, all_bits}
 use Rattle.capture.specs.Limit.{symbol_limit}
 use Rattle.capture.proofs.Bitstring.{bits_narrow}
 

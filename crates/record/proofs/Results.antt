@@ -23,7 +23,8 @@ use Rattle.fields.specs.declared.kind.Kind.{Kind}
 use Rattle.fields.specs.declared.kind.Kind.TheVariants.{Unnamed, Named}
 use Rattle.record.proofs.Cases.{by_tests, kind_long, read_by, refused_is, refused_size}
 use Rattle.record.specs.Record.{Reading, extent_of, held_in, holds, kind_in, reading_of}
-use Rattle.record.specs.Told.{extent_told, kind_told, reading_told}
+use Rattle.record.specs.Told.{extent_told, reading_told}
+use Rattle.record.specs.Inner.Kinds.{kind_told}
 use Rattle.recordable.specs.Recordable.{held_as, holdable}
 use Rattle.recordable.specs.declared.Held.{Held}
 

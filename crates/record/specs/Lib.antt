@@ -1,3 +1,4 @@
 pub mod Record
 pub mod Flag
 pub mod Told
+pub mod Inner

@@ -1,10 +1,8 @@
 -- What the results of the writer and the reader are to a caller that has no enum: the answer number, and 0 bytes where it refuses. Definitions only.
-use Rattle.std.specs.Prelude.{ℕ, Option, None, Some, Result, Ok, Err}
+use Rattle.std.specs.Prelude.{ℕ, Result, Ok, Err}
 use Rattle.answer.specs.Numbers.{done}
 use Rattle.answer.specs.Results.{number_of, refused_by}
 use Rattle.answer.specs.declared.Refusal.{Refusal}
-use Rattle.fields.specs.Kind.{kind_number}
-use Rattle.fields.specs.declared.kind.Kind.{Kind}
 use Rattle.recordable.specs.declared.Held.TheVariants.{Unnamed}
 use Rattle.record.specs.Record.{Extent, Reading}
 use Rattle.record.specs.declared.Reading.{Reading as Record}
@@ -24,8 +22,3 @@ extent_told (Err e) = record { number = number_of e; size = 0 }
 abbrev pub reading_told : Result Record Refusal → Reading
 reading_told (Ok r) = record { number = done; size = r.size; held = r.held }
 reading_told (Err e) = record { number = number_of e; size = 0; held = Unnamed (refused_by e) }
-
--- a kind by its number, and 0 where there is none
-abbrev pub kind_told : Option Kind → ℕ
-kind_told None = 0
-kind_told (Some kind) = kind_number kind

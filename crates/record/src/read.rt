@@ -4,7 +4,8 @@ ghost use Rattle.answer.specs.Results.{number_in};
 ghost use Rattle.fields.specs.Fields.{answer_size};
 ghost use Rattle.fields.specs.Kind.{kind_number};
 ghost use Rattle.record.specs.Record.{extent_of, framed_as, held_in, kind_in, reading_of};
-ghost use Rattle.record.specs.Told.{extent_told, kind_told, reading_told};
+ghost use Rattle.record.specs.Told.{extent_told, reading_told};
+ghost use Rattle.record.specs.Inner.Kinds.{kind_told};
 
 use crate::Reading;
 use answer::Refusal;

@@ -4,7 +4,7 @@ use Rattle.std.proofs.Common.{rules, Err}
 use Rattle.answer.specs.Results.{number_in, number_of}
 use Rattle.record.proofs.Results.{bad_kind, long, no_kind, tested}
 use Rattle.record.specs.Record.{Reading}
-use Rattle.record.specs.Told.{kind_told}
+use Rattle.record.specs.Inner.Kinds.{kind_told}
 use Rattle.record.proofs.read.readable.Goals as goal
 
 pub returns-in_err-kind-clause-number : goal.returns-in_err-kind-clause-number
