@@ -4,9 +4,9 @@ ghost use Rattle.answer.specs.Results.{number_in, number_of, refused_by};
 ghost use Rattle.capture.specs.Refusals.{bits_refusal, refused_on, symbols_refusal};
 ghost use Rattle.capture.specs.Bits.{all_bits};
 
-use crate::bits::{SYMBOL_LIMIT, first_wide, too_wide_at};
+use crate::bits::{SYMBOL_LIMIT, too_wide_at};
 use crate::source::Source;
-use answer::{Answer, DONE, Refusal, TOO_WIDE, refused_as, refused_at};
+use answer::Refusal;
 
 // The bits that a bitstring track takes of a capture. Fewer than `least` are not run; `short` says that lent memory is too short.
 pub fn accept_bits<'a>(
@@ -46,27 +46,4 @@ pub fn accept_symbols(symbols: &[u8], least: usize, short: bool) -> Result<(), R
         return Err(Refusal::TooShort);
     }
     Ok(())
-}
-
-// The number by which a capture is refused, or 0. Fewer bits than `least` are not run; `short` says that lent memory is too short.
-pub fn bits_refusal(symbols: &[u8], width: u8, least: usize, short: bool) -> u64
-    ensures { result ≡ bits_refusal symbols.now width least short }
-{
-    match accept_bits(symbols, width, least, short) {
-        Ok(_) => DONE,
-        Err(refusal) => refusal.number(),
-    }
-}
-
-// The answer of a refusal by its number. Only number 3 names a place.
-pub fn refused_on(symbols: &[u8], number: u64) -> Answer
-    ensures { result ≡ refused_on symbols.now number }
-{
-    if number == TOO_WIDE {
-        return match first_wide(symbols) {
-            Some(i) => refused_at(number, i as u64),
-            None => refused_at(number, symbols.len() as u64),
-        };
-    }
-    refused_as(number)
 }
