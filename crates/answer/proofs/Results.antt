@@ -1,13 +1,13 @@
 -- The answer that C gets tells the result: nothing of a result is lost in it, so that a contract on the answer fixes the result. A float's record has no
 -- room for a place, and tells every result but a refusal that names one. Assumes nothing.
-use mathlib.Core.Path.{◌≡◌, refl, subst}
+use mathlib.Core.Path.{◌≡◌, refl, ap, subst}
 use mathlib.Core.Bool.{cond}
 use Prim.Native.Nat.{ℕ}
 use native.Mathlib.Omega.{arith}
 use lib.Dec.{eqb}
-use Rattle.std.specs.Prelude.{Float, Result, Ok, Err}
+use Rattle.std.specs.Prelude.{Float, Result, Ok, Err, IsErr, IsErrAnd}
 use Rattle.answer.specs.Numbers.{done, too_long, too_short, too_wide, impossible, out_of_range, not_run, bad_width, bad_frame, bad_answer}
-use Rattle.answer.specs.Results.{answer_of, number_in, number_of, place_of, rated_answer, solved_of, value_of}
+use Rattle.answer.specs.Results.{answer_of, number_in, number_of, place_of, rated_answer, refused_by, solved_of, value_of}
 use Rattle.answer.specs.declared.Answer.{Answer}
 use Rattle.answer.specs.declared.Estimated.{Estimated}
 use Rattle.answer.specs.declared.Rated.{Rated}
@@ -67,6 +67,11 @@ placeless BadWidth n = refl
 placeless BadFrame n = refl
 placeless BadAnswer n = refl
 placeless BadState n = refl
+
+-- a refusal that is passed on
+pub rated_refused : (r : Result Rated Refusal) (e : Refusal) → IsErr r × IsErrAnd r (λ x. x ≡ e) → rated_answer r ≡ refused_by e
+rated_refused (Ok x) e h = absurd (omega (arith, h.0))
+rated_refused (Err x) e h = ap refused_by h.1
 
 -- what ran, or the refusal of the answer's number and place
 abbrev pub held : {A : Type 0} → A → ℕ → ℕ → Result A Refusal

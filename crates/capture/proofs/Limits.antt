@@ -11,7 +11,6 @@ use lib.Dec.{eqb, ltb}
 use Rattle.capture.specs.Limit.{no_width, symbol_limit}
 use lib.ListN.{length}
 use Rattle.capture.specs.Inner.Sources.{IsSource}
-use Rattle.capture.specs.Inner.Spots.{Source}
 
 -- a place of a capture, and eight times as much, are far below what a u64 holds
 pub limit_small : symbol_limit * 8 < 4294967296
@@ -21,10 +20,6 @@ limit_small = omega arith
 -- the number of bits of a capture is far below what a u64 holds
 pub bits_small : (n w : ℕ) → n ≤ symbol_limit → w ≤ 8 → n * w < 4294967296
 bits_small n w h g = lt_of_le_of_lt (le_trans (mul-le-mul_right w h) (mul-le-mul_left symbol_limit g)) limit_small
-
--- and so is that of a source
-pub source_short : {symbols : List ℕ} {width count : ℕ} → Source symbols width count → count < 4294967296
-source_short S = lt_of_le_of_lt S.within (bits_small _ _ S.short S.narrow)
 
 -- a width that is taken: some bits, and no more than a byte has
 pub record Width (w : ℕ) : Type 0 where

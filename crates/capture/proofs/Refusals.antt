@@ -3,18 +3,17 @@ use mathlib.Core.Path.{◌≡◌, ◌∙◌}
 use mathlib.Core.Bool.{Bool, true, false, cond}
 use mathlib.Core.List.{List}
 use Prim.Native.Nat.{ℕ, ◌*◌, ◌≤◌, ◌<◌}
-use native.Mathlib.Nat.{le_refl}
+use native.Mathlib.Omega.{arith}
 use borrow.Author.Tests.{ltb-false, lt-ltb, le-ltb}
 use lib.Dec.{ltb}
 use lib.ListN.{length}
 use Rattle.answer.proofs.Order.{passed}
 use Rattle.answer.specs.Numbers.{done, too_wide, too_long, too_short, not_run, bad_width}
-use Rattle.capture.specs.Inner.Spots.{Source}
 use Rattle.capture.specs.Bits.{bit_count, wide}
 use Rattle.capture.specs.Inner.Sources.{source_refusal}
 use Rattle.capture.proofs.Reading.{taken_first}
 use Rattle.capture.specs.Limit.{no_width, over_limit, symbol_limit}
-use Rattle.capture.specs.Refusals.{bits_refusal}
+use Rattle.capture.specs.Refusals.{bits_refusal, symbols_refusal}
 use Rattle.capture.proofs.Limits.{Width, width_taken}
 
 pub record Taken (s : List ℕ) (w least : ℕ) (short : Bool) : Type 0 where
@@ -36,9 +35,15 @@ taken s w least short h =
       room = two.0;
     }
 
--- the source of bits that it is
-pub taken_source : {s : List ℕ} {w least : ℕ} {short : Bool} → Taken s w least short → Source s w (length s * w)
-taken_source {s} {w} T = record { short = T.fits; some = T.width.some; narrow = T.width.narrow; within = le_refl (length s * w) }
+-- a track over the symbols as they are is not refused by number 3
+order_not_wide : (a b c : Bool) → cond a too_long (cond b not_run (cond c too_short done)) ≡ too_wide → ⊥
+order_not_wide true b c h = omega (arith, h)
+order_not_wide false true c h = omega (arith, h)
+order_not_wide false false true h = omega (arith, h)
+order_not_wide false false false h = omega (arith, h)
+
+pub symbols_not_wide : (s : List ℕ) (least : ℕ) (short : Bool) → symbols_refusal s least short ≡ too_wide → ⊥
+symbols_not_wide s least short h = order_not_wide (over_limit s) (ltb (length s) least) short h
 
 -- the order past a source's own refusals, test by test
 module _ (s : List ℕ) (w least : ℕ) (short : Bool) (source : source_refusal s w ≡ 0) where

@@ -21,7 +21,7 @@ use Rattle.capture.specs.Bits.{bits_of, all_bits}
 use Rattle.capture.specs.Limit.{over_limit, symbol_limit}
 use Rattle.capture.specs.Refusals.{refused_on, symbols_refusal}
 use Rattle.capture.proofs.Bitstring.{bits_length}
-use Rattle.capture.proofs.Refusals.{taken}
+use Rattle.capture.proofs.Refusals.{symbols_not_wide, taken}
 use Rattle.capture.proofs.Sources.{counted, whole}
 use Rattle.race.specs.declared.Outcome.{Outcome}
 use Rattle.rating.specs.Rating.{rating_of}
@@ -57,17 +57,6 @@ module _ (s : List ℕ) (w : ℕ) where
 
 -- ---- the literal track
 
-order_not_wide : (a b c : Bool) → cond a too_long (cond b not_run (cond c too_short done)) ≡ too_wide → ⊥
-order_not_wide true b c h = omega (arith, h)
-order_not_wide false true c h = omega (arith, h)
-order_not_wide false false true h = omega (arith, h)
-order_not_wide false false false h = omega (arith, h)
-
--- a refusal that is passed on
-pub rated_refused : (r : Result Rated Refusal) (e : Refusal) → IsErr r × IsErrAnd r (λ x. x ≡ e) → rated_answer r ≡ refused_by e
-rated_refused (Ok x) e h = absurd (omega (arith, h.0))
-rated_refused (Err x) e h = ap refused_by h.1
-
 -- what is known of a capture that is not refused
 pub record Taken (s out : List ℕ) : Type 0 where
   pub fits : length s ≤ symbol_limit
@@ -91,7 +80,7 @@ module _ (s out : List ℕ) where
   unfolding mcw_literal mcw_literal_output
   literal_refused e n =
       let f : eqb (literal_number s out) done ≡ false = ne_eqb (literal_number s out) 0 (λ q. is_refusal e (n ∙ q)) in
-      let p : place_of e ≡ 0 = placeless e (λ q. order_not_wide (over_limit s) (ltb (length s) least_samples) (ltb (length out) (length s)) (sym n ∙ q)) in
+      let p : place_of e ≡ 0 = placeless e (λ q. symbols_not_wide s least_samples (ltb (length out) (length s)) (sym n ∙ q)) in
       (rw (f, p, n), rw f)
 
   module _ (z : done ≡ literal_number s out) {size : ℕ} {out₁ : List ℕ} (a : alphabet_in (Ok size) ≡ alphabet_of s out) (o : out₁ ≡ output_of dense s out) where

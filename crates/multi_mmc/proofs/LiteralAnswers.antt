@@ -6,8 +6,8 @@ use Rattle.std.specs.Prelude.{Result, Ok, Err, IsErr, IsErrAnd}
 use Rattle.answer.specs.Results.{number_of, place_of, rated_answer, refused_by}
 use Rattle.answer.specs.declared.Rated.{Rated}
 use Rattle.answer.specs.declared.Refusal.{Refusal}
-use Rattle.answer.specs.declared.Refusal.TheVariants.{TooLong, TooShort, TooWide, Impossible, OutOfRange, NotRun, BadWidth, BadFrame, BadAnswer, BadState}
-use Rattle.capture.proofs.Reading.{is_refusal}
+use Rattle.answer.proofs.Results.{is_refusal, placeless}
+use Rattle.capture.proofs.Refusals.{symbols_not_wide}
 use mathlib.Core.List.{List}
 use mathlib.Mathlib.Data.Bool.Basic.{or-eq-false-eq-eq-false-and-eq-false as neither}
 use Prim.Native.Nat.{ℕ, ◌≤◌, ◌<◌}
@@ -21,7 +21,7 @@ use Rattle.answer.specs.declared.Answer.{Answer}
 use Rattle.alphabet.specs.Alphabet.{alphabet_of, distinct, output_of, sorted, written}
 use Rattle.alphabet.specs.declared.Alphabet.{Alphabet}
 use Rattle.multi_mmc.proofs.Translated.{Translation}
-use Rattle.capture.specs.Inner.Sources.{symbols_refusal}
+use Rattle.capture.specs.Refusals.{symbols_refusal}
 use Rattle.capture.specs.Limit.{over_limit, symbol_limit}
 use Rattle.mmc_bits.specs.Levels.{levels, cap}
 use Rattle.mmc_bits.specs.Space as BitSpace
@@ -37,30 +37,6 @@ use Rattle.multi_mmc.specs.Tracks.{
   needed,
   store_estimate,
 }
-
--- a refusal but number 3 names no place
-placeless : (e : Refusal) → (number_of e ≡ too_wide → ⊥) → place_of e ≡ 0
-placeless TooLong n = refl
-placeless TooShort n = refl
-placeless (TooWide place) n = absurd (n refl)
-placeless Impossible n = refl
-placeless OutOfRange n = refl
-placeless NotRun n = refl
-placeless BadWidth n = refl
-placeless BadFrame n = refl
-placeless BadAnswer n = refl
-placeless BadState n = refl
-
-order_not_wide : (a b c : Bool) → cond a too_long (cond b not_run (cond c too_short done)) ≡ too_wide → ⊥
-order_not_wide true b c h = omega (arith, h)
-order_not_wide false true c h = omega (arith, h)
-order_not_wide false false true h = omega (arith, h)
-order_not_wide false false false h = omega (arith, h)
-
--- a refusal that is passed on
-pub rated_refused : (r : Result Rated Refusal) (e : Refusal) → IsErr r × IsErrAnd r (λ x. x ≡ e) → rated_answer r ≡ refused_by e
-rated_refused (Ok x) e h = absurd (omega (arith, h.0))
-rated_refused (Err x) e h = ap refused_by h.1
 
 -- what is known of a capture that is not refused
 pub record Taken (s out space : List ℕ) : Type 0 where
@@ -105,7 +81,7 @@ module _ (s out space : List ℕ) {n : ℕ} (e : n ≡ literal_number s out spac
 
   number_not_wide : literal_number s out space ≡ too_wide → ⊥
   unfolding literal_number
-  number_not_wide h = order_not_wide (over_limit s) (ltb (length s) least_samples) (ltb (length out) (length s) || ltb (length space) (needed s)) h
+  number_not_wide h = symbols_not_wide s least_samples (ltb (length out) (length s) || ltb (length space) (needed s)) h
 
   abbrev Answered : Answer → List ℕ → List ℕ → Type 0
   Answered r out' space' = (r ≡ mmc_literal s out space) × (out' ≡ mmc_literal_output s out space) × (space' ≡ mmc_literal_space s out space)

@@ -2,7 +2,8 @@
 -- is run. Assumes nothing.
 use mathlib.Core.Path.{◌∙◌}
 use native.Mathlib.Omega.{arith}
-use Rattle.multi_mcw.proofs.Answers.{literal_refused, literal_asks, rated_refused, literal_ran}
+use Rattle.answer.proofs.Results.{rated_refused}
+use Rattle.multi_mcw.proofs.Answers.{literal_refused, literal_asks, literal_ran}
 use Rattle.multi_mcw.proofs.multi_mcw_literal.Goals as goal
 
 pub returns-in_err-accept_symbols : goal.returns-in_err-accept_symbols

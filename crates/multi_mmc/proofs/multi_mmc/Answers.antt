@@ -7,15 +7,15 @@ use native.Mathlib.Omega.{arith}
 use borrow.Author.Tests.{ltb-false}
 use lib.Dec.{ltb}
 use lib.ListN.{length}
+use Rattle.answer.proofs.Results.{is_refusal, rated_refused}
+use Rattle.capture.specs.Bits.{all_bits}
 use Rattle.capture.proofs.Refusals.{taken}
 use Rattle.capture.proofs.Sources.{all_length}
 use Rattle.mmc_bits.specs.Levels.{cap, levels}
 use Rattle.mmc_bits.specs.Space.{size, final}
 use Rattle.multi_mmc.specs.Tracks.{bits_estimate, bits_number, least_samples}
 use Rattle.multi_mmc.proofs.BitsAnswers.{bits_refused, bits_ran}
-use Rattle.multi_mmc.proofs.LiteralAnswers.{rated_refused}
 use Rattle.multi_mmc.proofs.multi_mmc.Goals as goal
-use Rattle.capture.specs.Bits.{all_bits}
 
 pub returns-in_err-source : goal.returns-in_err-source
 unfolding bits_number size

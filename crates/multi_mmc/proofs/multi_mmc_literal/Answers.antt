@@ -1,7 +1,7 @@
 -- `multi_mmc::multi_mmc_literal` meets its contract. It is refused by the number of `literal_refusal`; else the race is over the rising numbers, which are
 -- bits where there are at most two. Assumes nothing.
 use Rattle.answer.specs.Results.{number_of}
-use Rattle.capture.specs.Inner.Sources.{symbols_refusal}
+use Rattle.capture.specs.Refusals.{symbols_refusal}
 use mathlib.Core.Path.{◌≡◌, refl, ap, ◌∙◌}
 use mathlib.Core.List.{List}
 use Prim.Native.Nat.{ℕ, ◌≤◌, ◌<◌}
@@ -12,7 +12,8 @@ use Rattle.alphabet.proofs.Alphabets.{Bytes}
 use Rattle.mmc_bits.specs.Levels.{cap, levels}
 use Rattle.mmc_bits.specs.Space.{final}
 use Rattle.multi_mmc.specs.Tracks.{bits_estimate, least_samples, literal_number, store_estimate}
-use Rattle.multi_mmc.proofs.LiteralAnswers.{accepted, literal_refused, literal_taken, rated_refused, translated, many_needed, many_ran, two_needed, two_ran}
+use Rattle.answer.proofs.Results.{rated_refused}
+use Rattle.multi_mmc.proofs.LiteralAnswers.{accepted, literal_refused, literal_taken, translated, many_needed, many_ran, two_needed, two_ran}
 use Rattle.multi_mmc.proofs.Translated.{bits_are, bits_many, size_is, source_is, taken_is, taken_length, written_is}
 use Rattle.multi_mmc.proofs.multi_mmc_literal.Goals as goal
 
