@@ -1,8 +1,8 @@
 // A capture translated by its values' numbers in rising order: eight symbols are looked up at a time.
 #![tactic(auto)]
 
-ghost use Rattle.std.specs.Prelude.{◌≡◌, length, map};
-ghost use Rattle.alphabet.specs.Alphabet.{rising, sorted};
+ghost use Rattle.std.specs.Prelude.{◌≡◌, ◌≤◌, length, map};
+ghost use Rattle.alphabet.specs.Alphabet.{rising, sorted, written};
 
 use marks::ranking::Ranking;
 
@@ -16,8 +16,9 @@ fn renumber_each(symbols: &[u8], ranking: &Ranking, out: &mut [u8])
     }
 }
 
-// Translates each symbol by its number. Eight are read before the first of them is written, so that the reads can overlap.
-pub fn renumber(ranking: &Ranking, out: &mut [u8])
+// Translates each symbol to a place of just their number. Eight are read before the first of them is written, so that the
+// reads can overlap.
+fn renumber_all(ranking: &Ranking, out: &mut [u8])
     requires { length out.old ≡ length ranking.now }
     ensures { out.new ≡ sorted ranking.now }
 {
@@ -27,4 +28,13 @@ pub fn renumber(ranking: &Ranking, out: &mut [u8])
         out[8 * i..8 * i + 8].copy_from_slice(&numbers);
     }
     renumber_each(rest, ranking, &mut out[8 * eights.len()..]);
+}
+
+// Translates each symbol by its number.
+pub fn renumber(ranking: &Ranking, out: &mut [u8])
+    requires { length ranking.now ≤ length out.old }
+    ensures { out.new ≡ written (sorted ranking.now) out.old }
+{
+    let n = ranking.symbols().len();
+    renumber_all(ranking, &mut out[..n]);
 }

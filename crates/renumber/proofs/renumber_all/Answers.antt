@@ -1,4 +1,4 @@
--- `renumber::renumber` meets its contract. Each run of eight is written as its numbers, and `renumber_each` writes those that are left. Assumes nothing.
+-- `renumber::renumber_all` meets its contract. Each run of eight is written as its numbers, and `renumber_each` writes those that are left. Assumes nothing.
 use Rattle.std.proofs.Common.{rules, ◌≡◌, ℕ, ◌<◌, ◌≤◌, ◌*◌, ◌+◌, ◌/◌, List, [], map, length, slice_index_or, take, drop}
 use mathlib.Core.Path.{ap, ◌∙◌}
 use lib.ListN.{length-drop}
@@ -7,7 +7,7 @@ use native.Mathlib.Omega.{arith}
 use Rattle.alphabet.specs.Alphabet.{rising}
 use Rattle.marks.proofs.Chunks.{chunk_at}
 use Rattle.renumber.proofs.Translating.{run_more, rest_more, maps}
-use Rattle.renumber.proofs.renumber.Goals as goal
+use Rattle.renumber.proofs.renumber_all.Goals as goal
 
 pub loop-i-preserved : goal.loop-i-preserved
 loop-i-preserved c =
