@@ -3,7 +3,8 @@
 
 ghost use Rattle.std.specs.Prelude.{◌≡◌};
 ghost use Rattle.answer.specs.Numbers.{given};
-ghost use Rattle.answer.specs.Refused.{minus_one};
+ghost use Rattle.answer.specs.Predicted.{predicted_by};
+ghost use Rattle.answer.specs.Refused.{minus_one, refused, refused_at, refused_solved, refused_value};
 ghost use Rattle.answer.specs.Results.{number_of, place_of, refused_by};
 
 // The answer numbers of documents 01 and 02.
@@ -156,9 +157,9 @@ pub fn no_value() -> f64
     -1.0
 }
 
-// The answer of a refusal: every count 0, every float -1.0.
-fn refused_by(refusal: Refusal) -> Answer
-    ensures { result ≡ refused_by refusal }
+// A refusal that names a place: every count 0, every float -1.0.
+pub fn refused_at(number: u64, place: u64) -> Answer
+    ensures { result ≡ refused_at number place }
 {
     let none = no_value();
     let estimate = Estimate {
@@ -171,13 +172,53 @@ fn refused_by(refusal: Refusal) -> Answer
         min_entropy: none,
     };
     Answer {
-        number: refusal.number(),
-        place: refusal.place(),
+        number,
+        place,
         k: 0,
         rounds: 0,
         winner: 0,
         score: 0,
         estimate,
+    }
+}
+
+// A refusal by number.
+pub fn refused_as(number: u64) -> Answer
+    ensures { result ≡ refused number }
+{
+    refused_at(number, 0)
+}
+
+fn refused_by(refusal: Refusal) -> Answer
+    ensures { result ≡ refused_by refusal }
+{
+    refused_at(refusal.number(), refusal.place())
+}
+
+// An answer with who predicted: one other than 0 has no winner.
+pub fn predicted_by(a: Answer, winner: u64, score: u64) -> Answer
+    ensures { result ≡ predicted_by winner score a }
+{
+    if a.number != DONE {
+        return a;
+    }
+    Answer { winner, score, ..a }
+}
+
+pub fn refused_value(number: u64) -> Value
+    ensures { result ≡ refused_value number }
+{
+    let value = no_value();
+    Value { number, value }
+}
+
+pub fn refused_solved(number: u64) -> Solved
+    ensures { result ≡ refused_solved number }
+{
+    Solved {
+        number,
+        rounds: 0,
+        value: no_value(),
     }
 }
 
@@ -230,10 +271,7 @@ impl From<Result<f64, Refusal>> for Value {
                 number: DONE,
                 value,
             },
-            Err(refusal) => Value {
-                number: refusal.number(),
-                value: no_value(),
-            },
+            Err(refusal) => refused_value(refusal.number()),
         }
     }
 }
@@ -251,11 +289,7 @@ impl From<Result<Solution, Refusal>> for Solved {
                 rounds: s.rounds,
                 value: s.value,
             },
-            Err(refusal) => Solved {
-                number: refusal.number(),
-                rounds: 0,
-                value: no_value(),
-            },
+            Err(refusal) => refused_solved(refusal.number()),
         }
     }
 }
