@@ -3,5 +3,6 @@ pub mod Limits
 pub mod Reading
 pub mod Refusals
 pub mod Sources
+pub mod Told
 pub mod Walking
 pub mod Widest

@@ -21,6 +21,10 @@ limit_small = omega arith
 pub bits_small : (n w : ℕ) → n ≤ symbol_limit → w ≤ 8 → n * w < 4294967296
 bits_small n w h g = lt_of_le_of_lt (le_trans (mul-le-mul_right w h) (mul-le-mul_left symbol_limit g)) limit_small
 
+-- and so is that of a source, or fewer of its bits
+pub source_short : {symbols : List ℕ} {width count : ℕ} → IsSource symbols width → count ≤ length symbols * width → count < 4294967296
+source_short S within = lt_of_le_of_lt within (bits_small _ _ S.short S.narrow)
+
 -- a width that is taken: some bits, and no more than a byte has
 pub record Width (w : ℕ) : Type 0 where
   pub some : 1 ≤ w

@@ -11,11 +11,9 @@ use Rattle.answer.specs.Numbers.{done, too_long, too_short, too_wide, bad_width}
 use Rattle.answer.proofs.Results.{is_refusal}
 use Rattle.answer.specs.Results.{number_of, place_of}
 use Rattle.answer.specs.declared.Refusal.{Refusal}
-use Rattle.answer.specs.declared.Refusal.TheVariants.{TooLong, TooShort, TooWide, Impossible, OutOfRange, NotRun, BadWidth, BadFrame, BadAnswer, BadState}
 use Rattle.std.specs.Prelude.{Err}
-use Rattle.capture.specs.Bits.{bit_at, bit_count}
+use Rattle.capture.specs.Bits.{bit_at, bit_count, source_refusal}
 use Rattle.capture.specs.Limit.{no_width, over_limit}
-use Rattle.capture.specs.Inner.Sources.{source_refusal}
 use Rattle.capture.specs.Reader.{bit_read, bit_read_of, refused_bit}
 use Rattle.capture.specs.declared.BitRead.{BitRead}
 

@@ -9,8 +9,7 @@ use lib.Dec.{ltb}
 use lib.ListN.{length}
 use Rattle.answer.proofs.Order.{passed}
 use Rattle.answer.specs.Numbers.{done, too_wide, too_long, too_short, not_run, bad_width}
-use Rattle.capture.specs.Bits.{bit_count, wide}
-use Rattle.capture.specs.Inner.Sources.{source_refusal}
+use Rattle.capture.specs.Bits.{bit_count, source_refusal, wide}
 use Rattle.capture.proofs.Reading.{taken_first}
 use Rattle.capture.specs.Limit.{no_width, over_limit, symbol_limit}
 use Rattle.capture.specs.Refusals.{bits_refusal, symbols_refusal}

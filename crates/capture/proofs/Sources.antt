@@ -3,7 +3,7 @@
 use mathlib.Core.Path.{◌≡◌, refl, ap, ◌∙◌}
 use mathlib.Core.List.{List, [], ◌∷◌}
 use Prim.Native.Nat.{ℕ, suc, ◌+◌, ◌-◌, ◌*◌, ◌/◌, ◌%◌, ◌^◌, ◌≤◌, ◌<◌}
-use native.Mathlib.Nat.{mul-le-mul_right, suc-mul}
+use native.Mathlib.Nat.{le_refl, mul-le-mul_right, suc-mul}
 use native.Mathlib.Omega.{arith}
 use lib.ListN.{length, get_or, drop, drop_of_length-le}
 use lib.Seq.{drop-cons}
@@ -11,7 +11,7 @@ use Rattle.std.proofs.Common.{add-one}
 use Rattle.capture.specs.Bits.{bit_at, bits_of, all_bits}
 use Rattle.capture.specs.Inner.Sources.{AreBits, IsSource, IsWalk, bits_left}
 use Rattle.capture.proofs.Bitstring.{bits_length, bits_at, bits_narrow, bit_small}
-use Rattle.capture.proofs.Limits.{bits_small}
+use Rattle.capture.proofs.Limits.{source_short}
 use Rattle.capture.proofs.Walking.{quotient_is, remainder_is}
 
 module _ (s : List ℕ) (w : ℕ) where
@@ -50,7 +50,7 @@ counted s w e f = e ∙ ap length f ∙ all_length s w
 pub source_bits : {s : List ℕ} {w : ℕ} → IsSource s w → AreBits (all_bits s w)
 source_bits {s} {w} S =
     record {
-      short = omega (arith, all_length s w, bits_small (length s) w S.short S.narrow);
+      short = omega (arith, all_length s w, source_short S (le_refl (length s * w)));
       below = λ i h. let inside : i < length s * w = omega (arith, all_length s w) in
           rw (all_at s w i inside) (bit_small s w i);
     }

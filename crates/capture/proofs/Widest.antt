@@ -11,6 +11,7 @@ use Rattle.std.specs.List.{position_or_len}
 use Rattle.std.proofs.lemmas.List.Recursion.{is_position_or_len}
 use Rattle.std.proofs.lemmas.List.Sums.{prefix_len-le-length}
 use Rattle.std.specs.Prelude.{Some, None}
+use Rattle.std.specs.Option.{unwrap_or}
 use Rattle.capture.specs.Bits.{first_wide, too_wide_at, wide, place_in}
 
 above_one : (x n : ℕ) → cond (leb x 1) (suc n) 0 ≡ cond (ltb 1 x) 0 (1 + n)
@@ -56,3 +57,10 @@ wide_none s w e = wide_is s w ∙ place_none _ _ e
 
 pub wide_nowhere : (s : List ℕ) → place_in s (first_wide s) ≡ None → first_wide s ≡ length s
 wide_nowhere s e = omega (arith, wide_within s, ltb-false _ _ (place_none _ _ e))
+
+pub wide_or_length : (s : List ℕ) → unwrap_or (place_in s (first_wide s)) (length s) ≡ first_wide s
+wide_or_length s = go (ltb (first_wide s) (length s)) refl
+  where
+    go : (b : Bool) → ltb (first_wide s) (length s) ≡ b → unwrap_or (cond b (Some (first_wide s)) None) (length s) ≡ first_wide s
+    go true e = refl
+    go false e = omega (arith, wide_within s, ltb-false _ _ e)

@@ -1,5 +1,7 @@
 -- What bit i of a capture is, and how many there are. Definitions only.
 use Rattle.std.specs.Prelude.{ℕ, zero, suc, ◌*◌, ◌-◌, ◌/◌, ◌%◌, ◌^◌, Bool, true, false, cond, ◌&&◌, List, [], ◌∷◌, ◌++◌, leb, ltb, eqb, length, get_or, Option, Some, None}
+use Rattle.answer.specs.Numbers.{done, too_long, bad_width}
+use Rattle.capture.specs.Limit.{no_width, over_limit}
 
 -- "the low bits of each byte, highest first": bit i stands in byte i / width, with width - 1 - i % width bits of that byte after it.
 -- At width 1 the bit of a byte that is at most 1 is the byte as it is.
@@ -40,6 +42,10 @@ too_wide_at symbols width = cond (eqb width 1) (first_wide symbols) (length symb
 -- the bits of a whole capture
 unfoldable pub all_bits : List ℕ → ℕ → List ℕ
 all_bits symbols width = bits_of symbols width (bit_count symbols width)
+
+-- by which number it is refused that a capture is a source of bits
+abbrev pub source_refusal : List ℕ → ℕ → ℕ
+source_refusal symbols width = cond (over_limit symbols) too_long (cond (no_width width) bad_width done)
 
 -- a place of the list, or none past its end
 abbrev pub place_in : List ℕ → ℕ → Option ℕ

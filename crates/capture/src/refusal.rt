@@ -1,12 +1,12 @@
-// Which captures a track takes.
+// Which captures a track takes, and what it answers where it refuses one.
 ghost use Rattle.std.specs.Prelude.{◌≡◌, MatchResult};
 ghost use Rattle.answer.specs.Results.{number_in, number_of, refused_by};
 ghost use Rattle.capture.specs.Refusals.{bits_refusal, refused_on, symbols_refusal};
 ghost use Rattle.capture.specs.Bits.{all_bits};
 
-use crate::bits::{SYMBOL_LIMIT, too_wide_at};
+use crate::bits::{SYMBOL_LIMIT, first_wide, too_wide_at};
 use crate::source::Source;
-use answer::Refusal;
+use answer::{Answer, Refusal, TOO_WIDE, refused_at};
 
 // The bits that a bitstring track takes of a capture. Fewer than `least` are not run; `short` says that lent memory is too short.
 pub fn accept_bits<'a>(
@@ -43,7 +43,20 @@ pub fn accept_symbols(symbols: &[u8], least: usize, short: bool) -> Result<(), R
         return Err(Refusal::NotRun);
     }
     if short {
-        return Err(Refusal::TooShort);
+        Err(Refusal::TooShort)
+    } else {
+        Ok(())
     }
-    Ok(())
+}
+
+// The answer of a refusal by its number. Only number 3 names a place.
+#[tactic(auto, using(crate::proofs::Widest::wide_or_length))]
+pub fn refused_on(symbols: &[u8], number: u64) -> Answer
+    ensures { result ≡ refused_on symbols.now number }
+{
+    if number == TOO_WIDE {
+        let place = first_wide(symbols).unwrap_or(symbols.len());
+        return refused_at(number, place as u64);
+    }
+    refused_at(number, 0)
 }

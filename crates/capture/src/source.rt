@@ -2,8 +2,8 @@
 ghost use Rattle.std.specs.Prelude.{◌≡◌, ◌<◌, ℕ, List, get_or, length, IfOk, IfErr};
 ghost use Rattle.std.specs.Iterator.{YieldsFirst, item_count};
 ghost use Rattle.answer.specs.Results.{number_in, place_of};
-ghost use Rattle.capture.specs.Inner.Sources.{AreBits, IsSource, IsWalk, bits_left, source_refusal};
-ghost use Rattle.capture.specs.Bits.{all_bits};
+ghost use Rattle.capture.specs.Inner.Sources.{AreBits, IsSource, IsWalk, bits_left};
+ghost use Rattle.capture.specs.Bits.{all_bits, source_refusal};
 
 use crate::bits::{SYMBOL_LIMIT, no_width};
 use answer::Refusal;
