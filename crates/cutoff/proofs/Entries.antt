@@ -19,15 +19,16 @@ use lib.Ieee.Exact.{HasValue}
 use lib.Ieee.Order.{le_of_values}
 use lib.Ieee.Positive.{num, den, den_pos, between, own_value}
 use Rattle.std.specs.Prelude.{Result, Ok, Err}
-use Rattle.answer.specs.Results.{number_of, place_of}
+use Rattle.answer.specs.Numbers.{too_wide}
+use Rattle.answer.specs.Results.{number_in, number_of, place_of}
 use Rattle.answer.specs.declared.Refusal.{Refusal}
-use Rattle.answer.proofs.Results.{held, held_kept}
+use Rattle.answer.proofs.Results.{held, held_kept, placeless}
 use Rattle.cutoff.specs.declared.Cutoff.{Cutoff}
 use Rattle.rounding.specs.Doubles.{eight, whole}
 use Rattle.rounding.proofs.Exact.{held_whole, mul_held, scale_up}
 use Rattle.rounding.proofs.FromZero.{nonneg_of_value, le_self, fractions_of_le}
 use Rattle.rounding.proofs.Ranges.{whole_value}
-use Rattle.rounding.proofs.Compare.{holds}
+use Rattle.rounding.proofs.Compare.{holds, clash}
 use Rattle.cutoff.specs.Cutoff.{entries, spread, rounded_up, cutoff_at, Entry, sixty_fourth, in_range, entry_of, told}
 use Rattle.cutoff.proofs.RoundedUp.{rounded_up_enough, rounded_up_least, rounded_up_above, rounded_up_pos, rounded_up_twice, rounded_up_thrice}
 
@@ -158,6 +159,13 @@ module _ (h : Float) (e : in_range h ≡ true) (x : Float) (j : ℕ) (v : HasVal
   unfolding entry_of
   reached l = (le-div_iff_mul-le (den_pos h)).1 (le_trans (fractions_of_le x h j 64 (num h) (den h) v value l) (le_of_eq (mul_comm (num h) 64)))
 
+  missed : le x h ≡ false → entry_of h < j
+  unfolding entry_of
+  missed t =
+      (div-lt_iff_lt-mul (den_pos h)).1
+      (lt_of_not-le (λ (g : j * den h ≤ 64 * num h). clash (le x h)
+      (le_of_values x h j 64 (num h) (den h) (zero-lt-suc 63) (den_pos h) v value (le_trans g (le_of_eq (mul_comm 64 (num h))))) t))
+
   within : T (le h x) → entry_of h ≤ j
   unfolding entry_of
   within l =
@@ -176,6 +184,13 @@ eight_value = (refl, refl)
 
 pub entry_range : (h : Float) → in_range h ≡ true → (1 ≤ entry_of h) × (entry_of h ≤ entries)
 entry_range h e = (reached h e sixty_fourth 1 (refl, refl) (from_sixty_fourth h e), within h e eight entries eight_value (to_eight h e))
+
+module _ (h : Float) (e : in_range h ≡ true) (j : ℕ) (l : j ≤ entries) where
+  pub share_reached : le (share j) h ≡ true → j ≤ entry_of h
+  share_reached t = reached h e (share j) j (share_value j l) (holds (le (share j) h) t)
+
+  pub share_missed : le (share j) h ≡ false → entry_of h < j
+  share_missed t = missed h e (share j) j (share_value j l) t
 
 -- ---- how many whole 1/64 a double in range has: 64 times it, which is exact, without its fraction
 abbrev pub sixty_four : Float
@@ -278,3 +293,7 @@ refusal_told e h = let none : ℕ = 0 in subst (λ (p : ℕ). held none (number_
 
 pub cutoff_told : (c : ℕ) → cutoff_in (told (Ok c)) ≡ Ok c
 cutoff_told c = refl
+
+pub cutoff_tells : (r : Result ℕ Refusal) → (number_in r ≡ too_wide → ⊥) → cutoff_in (told r) ≡ r
+cutoff_tells (Ok c) h = cutoff_told c
+cutoff_tells (Err e) h = refusal_told e (placeless e h)

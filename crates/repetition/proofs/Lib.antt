@@ -4,3 +4,4 @@ pub mod Hearing
 pub mod Once
 pub mod InRow
 pub mod Starting
+pub mod Told

@@ -79,6 +79,10 @@ few_places (suc k) n h = pick (dec_le 10 n) (few_places k (n / 10))
 pub twenty_places : (n : ℕ) → n < 2 ^ 64 → places n ≤ 20
 twenty_places n h = few_places 19 n (omega arith)
 
+pub decimal_length : (n : ℕ) → length (decimal n) ≡ places n
+unfolding decimal
+decimal_length n = digits_length 10 (places n) n
+
 pub pattern_length : (x : Float) → length (pattern x) ≡ 16
 unfolding pattern
 pattern_length x = digits_length 16 16 (to_bits binary64 x)
