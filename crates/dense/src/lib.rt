@@ -22,7 +22,9 @@ fn enter(numbers: &mut [u16; 256], x: usize, next: u16) -> u16
     next
 }
 
-// Numbers the values by first sight as it translates. Returns how many there are.
+// Numbers the values by first sight as it translates. Returns how many there are. Not inlined: so that where the loop lies in its lines of code does
+// not hang on what goes before it.
+#[inline(never)]
 fn number_by_sight(symbols: &[u8], out: &mut [u8]) -> u64
     requires { length symbols.now ≤ length out.old }
     ensures { (result ≡ distinct symbols.now) × (out.new ≡ written (dense symbols.now) out.old) }

@@ -28,17 +28,18 @@ impl<'a> Ranking<'a> {
     pub fn of(symbols: &'a [u8]) -> Self
         ensures { result ≡ symbols.now }
     {
-        let mut numbers = [0; 256];
-        let mut size = 0;
+        // Filled in place: a table that is moved in would be a call of memcpy.
+        let mut ranking = Ranking {
+            symbols: &[],
+            numbers: [0; 256],
+            size: 0,
+        };
         for (value, seen) in seen_in(symbols).iter().enumerate() {
-            numbers[value] = size as u8;
-            size += u64::from(*seen);
+            ranking.numbers[value] = ranking.size as u8;
+            ranking.size += u64::from(*seen);
         }
-        Ranking {
-            symbols,
-            numbers,
-            size,
-        }
+        ranking.symbols = symbols;
+        ranking
     }
 
     // The capture.

@@ -9,20 +9,20 @@ use Rattle.marks.proofs.ranking.Ranking.of.Goals as goal
 pub loop-value-init : goal.loop-value-init
 loop-value-init c = (refl, sym (rising_none c.args.symbols.now), λ v l. omega arith)
 
-pub overflow_cast-numbers : goal.overflow_cast-numbers
-overflow_cast-numbers c = record { fits = omega (arith, c.loop-value.invariant.1, rising_le c.args.symbols.now c.loop-value.value) }
+pub overflow_cast-ranking : goal.overflow_cast-ranking
+overflow_cast-ranking c = record { fits = omega (arith, c.loop-value.invariant.1, rising_le c.args.symbols.now c.loop-value.value) }
 
-pub overflow_add-size : goal.overflow_add-size
-overflow_add-size c =
-    let next = rising_next c.seen_in.ensures c.loop-value.value c.loop-value-test.true c.from-size.ensures in
+pub overflow_add-ranking : goal.overflow_add-ranking
+overflow_add-ranking c =
+    let next = rising_next c.seen_in.ensures c.loop-value.value c.loop-value-test.true c.from.ensures in
     omega (arith, next, c.loop-value.invariant.1, rising_le c.args.symbols.now (c.loop-value.value + 1))
 
 pub loop-value-preserved : goal.loop-value-preserved
 loop-value-preserved c =
-    let next = rising_next c.seen_in.ensures c.loop-value.value c.loop-value-test.true c.from-size.ensures in
-    (simp length-set c.loop-value.invariant.0, omega (arith, next, c.loop-value.invariant.1), ranked_next c.args.symbols.now c.loop-value.numbers c.loop-value.value (omega arith) c.loop-value.invariant.2 c.loop-value.invariant.1)
+    let next = rising_next c.seen_in.ensures c.loop-value.value c.loop-value-test.true c.from.ensures in
+    (simp length-set c.loop-value.invariant.0, omega (arith, next, c.loop-value.invariant.1), ranked_next c.args.symbols.now c.loop-value.ranking-inside.numbers c.loop-value.value (omega arith) c.loop-value.invariant.2 c.loop-value.invariant.1)
 
-pub invariant_of-result : goal.invariant_of-result
-invariant_of-result c =
+pub invariant_of-ranking : goal.invariant_of-ranking
+invariant_of-ranking c =
     let all : c.loop-value.value ≡ 256 = omega arith in
     ranks all (c.loop-value.invariant.0) c.loop-value.invariant.1 c.loop-value.invariant.2

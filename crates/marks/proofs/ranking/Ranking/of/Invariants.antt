@@ -7,4 +7,4 @@ use Rattle.marks.proofs.ranking.Ranking.of.Given as goal
 
 abbrev pub invariant-loop-value : goal.invariant-loop-value
 invariant-loop-value l =
-    (length l.numbers ≡ 256) × (l.size ≡ rising l.symbols l.value) × ((v : ℕ) → v < l.value → get_or l.numbers v 0 ≡ rising l.symbols v)
+    (length l.ranking-inside.numbers ≡ 256) × (l.ranking-inside.size ≡ rising l.symbols l.value) × ((v : ℕ) → v < l.value → get_or l.ranking-inside.numbers v 0 ≡ rising l.symbols v)
