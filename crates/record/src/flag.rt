@@ -1,8 +1,8 @@
 // For callers that have no enum: a flag beside the answer, 0 where who predicted is absent.
 ghost use Rattle.std.specs.Prelude.{◌≡◌};
-ghost use Rattle.record.specs.Flag.{held_by};
+ghost use Rattle.record.specs.Flag.{flagged_of, held_by};
 
-use crate::{Flagged, Reading};
+use crate::{Flagged, Numbered, Reading};
 use answer::{Answer, DONE, Estimated, Refusal};
 use recordable::Held;
 
@@ -15,6 +15,22 @@ pub fn held_by(answer: Answer, told: u64) -> Held
         Held::Unnamed(answer)
     } else {
         Held::Named(answer)
+    }
+}
+
+// A reading with its flag.
+pub fn flagged(r: Numbered) -> Flagged
+    ensures { result ≡ flagged_of (record { number = r.number; size = r.size; held = r.held }) }
+{
+    let (told, answer) = match r.held {
+        Held::Unnamed(a) => (0, a),
+        Held::Named(a) => (1, a),
+    };
+    Flagged {
+        number: r.number,
+        size: r.size,
+        told,
+        answer,
     }
 }
 

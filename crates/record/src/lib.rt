@@ -15,6 +15,14 @@ pub struct Reading {
     pub held: Held,
 }
 
+// The same by its answer number, whatever that is.
+#[derive(Clone, Copy)]
+pub struct Numbered {
+    pub number: u64,
+    pub size: u64,
+    pub held: Held,
+}
+
 // What a writer says, as C has it: the answer number, and how many bytes the record takes, 0 where it is refused.
 #[repr(C)]
 #[derive(Clone, Copy)]

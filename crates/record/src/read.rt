@@ -10,7 +10,8 @@ ghost use Rattle.record.specs.Inner.Kinds.{kind_told};
 use crate::Reading;
 use answer::Refusal;
 use envelope::is_framed;
-use fields::{Kind, answer_in};
+use fields::Kind;
+use fields::body::answer_in;
 use recordable::{Held, is_readable};
 
 // Whether a whole record of a kind stands at the start.
@@ -34,7 +35,9 @@ fn kind_in(bytes: &[u8]) -> Option<Kind>
     }
 }
 
-// The kind of the record at the start, where that can be read. Refuses with 8, then 9.
+// The kind of the record at the start, where that can be read. Refuses with 8, then 9. Inlined, since a result handed back goes through
+// memory.
+#[inline]
 fn readable(bytes: &[u8]) -> Result<Kind, Refusal>
     ensures number { number_in result ≡ (reading_of bytes.now).number }
     ensures kind { IfOk result (λ kind. kind_number kind ≡ kind_in bytes.now) }

@@ -7,7 +7,8 @@ ghost use Rattle.record.specs.Told.{written_told};
 
 use answer::{Answer, Refusal};
 use envelope::put_head;
-use fields::{Kind, put_answer};
+use fields::Kind;
+use fields::body::put_answer;
 use recordable::{Held, is_holdable};
 
 // The kind of a number, where a record of it can be written. Of a number that is no kind, the least record there is is to fit the output.
