@@ -1,5 +1,5 @@
 -- The run from place to place: what the code holds before place i, and how a place moves it. Assumes nothing.
-use Prim.Native.Nat.{ℕ, suc, ◌+◌, ◌*◌, ◌-◌, ◌%◌, ◌≤◌, ◌<◌, min}
+use Prim.Native.Nat.{ℕ, suc, ◌+◌, ◌*◌, ◌-◌, ◌%◌, ◌^◌, ◌≤◌, ◌<◌, min}
 use mathlib.Core.Path.{◌≡◌, sym, ap, ◌∙◌}
 use mathlib.Core.List.{List, [], ◌∷◌, append-nil}
 use native.Mathlib.Omega.{arith}
@@ -8,14 +8,16 @@ use lib.ListN.{get_or, length, drop, replicate, length-drop, length-replicate, g
 use lib.Seq.{drop-cons}
 use lib.Dec.{ltb}
 use borrow.Author.Tests.{ltb-true, ltb-false}
-use Rattle.std.proofs.lemmas.List.{drop_all}
+use Rattle.std.proofs.lemmas.List.{drop_all, ext_get_or}
 use Rattle.capture.specs.Inner.Sources.{AreBits}
-use Rattle.race.specs.Inner.Raced.{Raced, Room, unraced, judged, outcome_in, raced_at}
+use Rattle.race.specs.Race.{sample}
+use Rattle.race.specs.Inner.Raced.{Raced, Room, unraced, judged, outcome_in}
 use Rattle.race.proofs.Cases.{tested}
-use Rattle.race.proofs.Placing.{raced_none, raced_room, judged_place, raced_ends}
+use Rattle.race.proofs.Standing.{no_score}
 use Rattle.verdicts.specs.declared.Masks.{Masks}
-use Rattle.verdicts.specs.Inner.Told.{Fair, verdict_in}
-use Rattle.verdicts.proofs.Tallying.{told_verdict, told_fair}
+use Rattle.verdicts.specs.Inner.Racing.{Racing}
+use Rattle.verdicts.specs.Inner.Told.{digit, verdict_in}
+use Rattle.verdicts.proofs.Racing.{racing_starts, racing_room, racing_spoke, racing_place, racing_outcome}
 use Rattle.mmc_bits.specs.Levels.{levels, cap, first_place}
 use Rattle.mmc_bits.specs.Counters.{context}
 use Rattle.mmc_bits.specs.Guesses.{guess}
@@ -38,6 +40,11 @@ are_bits {b} B j = tested (ltb j (length b))
 none_behind : (xs : List ℕ) → length xs ≡ 262140 → drop (size levels) xs ≡ []
 none_behind xs e = drop_all (size levels) xs (omega (arith, size_is))
 
+-- numbers that are all 0
+pub all_zero : (n : ℕ) (xs : List ℕ) → length xs ≡ n → ((j : ℕ) → j < n → get_or xs j 0 ≡ 0) → xs ≡ replicate n 0
+all_zero n xs e z =
+    ext_get_or 0 xs (replicate n 0) (e ∙ sym (length-replicate {A = ℕ} n 0)) (λ j l. z j (omega arith) ∙ sym (no_score n j))
+
 -- what the code holds before place i: the bits that are left, the context, how many pairs of level 16 have counters, the counters and the race
 pub record Running (b : List ℕ) (i : ℕ) (left : List ℕ) (recent stored : ℕ) (counters : List ℕ) (race : Raced) : Type 0 where
   pub bits : AreBits b
@@ -47,7 +54,7 @@ pub record Running (b : List ℕ) (i : ℕ) (left : List ℕ) (recent stored : �
   pub stored_is : stored ≡ min (distinct levels b i) cap
   pub counted : counters ≡ span cap 1 levels b i
   pub long : length counters ≡ 262140
-  pub raced : race ≡ raced_at levels first_place (guess cap b) b i
+  pub raced : Racing levels first_place (guess cap b) (sample b) (i - first_place) race
 
 -- from cleared counters
 pub running_starts : {b left counters : List ℕ} {race : Raced} → AreBits b → left ≡ b → counters ≡ replicate (size levels) 0 → race ≡ unraced 16
@@ -61,7 +68,7 @@ running_starts {b} {counters = cs} B l e r =
       stored_is = omega (arith, distinct_early levels b 0 (omega arith));
       counted = e ∙ sym (span_cleared cap levels b);
       long = omega (arith, ap length e, length-replicate {A = ℕ} (size levels) 0, size_is);
-      raced = r ∙ raced_none 16 first_place (guess cap b) (λ i. get_or b i 0);
+      raced = rw r (racing_starts levels first_place (guess cap b) (sample b) (omega arith) (omega arith));
     }
 
 module _ {b : List ℕ} {i : ℕ} {left : List ℕ} {recent stored : ℕ} {counters : List ℕ} {race : Raced} (R : Running b i left recent stored counters race) where
@@ -71,13 +78,13 @@ module _ {b : List ℕ} {i : ℕ} {left : List ℕ} {recent stored : ℕ} {count
   at_end e = omega (arith, R.within, length-drop i b, ap length (sym R.left_is ∙ e))
 
   pub running_ends : left ≡ [] → outcome_in race ≡ outcome_of levels cap b
-  running_ends e = rw R.raced (raced_ends levels first_place (guess cap b) b i (at_end e))
+  running_ends e = racing_outcome b R.raced (omega (arith, at_end e))
 
   pub running_leaves : left ≡ [] → counters ≡ span cap 1 levels b (length b)
   running_leaves e = rw (at_end e) at R.counted
 
   pub running_room : Room race
-  running_room = rw R.raced (raced_room levels first_place (guess cap b) (λ j. get_or b j 0) (i - first_place) (omega (arith, R.within, R.bits.short)))
+  running_room = racing_room R.raced (omega (arith, R.within, R.bits.short))
 
   -- ---- at a place: a bit x is left
 
@@ -116,13 +123,11 @@ module _ {b : List ℕ} {i : ℕ} {left : List ℕ} {recent stored : ℕ} {count
 
     -- and the levels have passed it
     module _ {stored' : ℕ} {masks : Masks} {counters' : List ℕ} (A : After b i stored' masks counters counters') where
-      pub place_fair : Fair 16 masks
-      place_fair = told_fair A.told
+      pub place_narrow : masks.rights < 2 ^ 16
+      place_narrow = A.told.few
 
-      raced_next : judged 16 race (verdict_in masks) ≡ raced_at levels first_place (guess cap b) b (i + 1)
-      raced_next =
-          rw R.raced (judged_place levels first_place (guess cap b) b (omega arith) i (verdict_in masks) (λ j l. told_verdict A.told j l)
-          (λ e j l. guess_late cap b i j (omega arith)))
+      pub place_spoke : digit masks.rights race.standing.winner ≤ digit masks.speaking race.standing.winner
+      place_spoke = racing_spoke R.raced A.told
 
       pub running_next : {race' : Raced} → length counters' ≡ 262140 → race' ≡ judged 16 race (verdict_in masks)
           → Running b (i + 1) rest ((recent * 2 + x) % 65536) stored' counters' race'
@@ -135,5 +140,5 @@ module _ {b : List ℕ} {i : ℕ} {left : List ℕ} {recent stored : ℕ} {count
             stored_is = rw (add-one i) A.stored_is;
             counted = rw (add-one i) (A.counted ∙ rw (none_behind counters R.long) (append-nil (span cap 1 levels b (suc i))));
             long = long;
-            raced = r ∙ raced_next;
+            raced = racing_place b R.raced r A.told (λ e j l. guess_late cap b i j (omega arith));
           }

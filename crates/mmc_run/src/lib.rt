@@ -10,7 +10,7 @@ use capture::source::Source;
 use mmc_bits::Counters;
 use mmc_bits::place::place;
 use race::Outcome;
-use verdicts::place::Race;
+use verdicts::Race;
 
 // All places, one after the other, from cleared counters on. Not inlined: with its callers' values beside it the loop takes more registers than there
 // are.
@@ -22,7 +22,7 @@ fn run(source: Source, counters: &mut Counters) -> Outcome
     ensures value { result ≡ outcome_of levels cap bits }
     ensures counters_after { counters.new ≡ span cap 1 levels bits (length bits) }
 {
-    let mut race = Race::new();
+    let mut race: Race<16> = Race::new();
     let mut recent: usize = 0;
     let mut stored: usize = 0;
     for (i, bit) in source.bits().enumerate() {

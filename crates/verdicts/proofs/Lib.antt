@@ -12,4 +12,5 @@ pub mod Shifting
 pub mod Passing
 pub mod Tallying
 pub mod Stepping
+pub mod Racing
 pub mod Examples

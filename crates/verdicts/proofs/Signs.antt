@@ -7,7 +7,7 @@ use native.Mathlib.Nat.{div-div-eq-div-mul, pow-suc, mul_comm, lt_of_lt_of_le}
 use lib.Dec.{eqb}
 use mathlib.Core.Bool.{not}
 use mir.Val.{bool_byte}
-use lib.Pow.{pow_mono}
+use lib.Pow.{pow_mono, pow_pos}
 use lib.ListN.{length, get_or, drop, replicate, length-drop}
 use lib.Bits.{bit_xor}
 use lib.Seq.{drop-cons}
@@ -81,6 +81,10 @@ signs_none zero = refl
 signs_none (suc m) = rw (signs_none m)
 
 -- ---- the mask of all
+
+-- as the code makes it
+pub whole : (m : ℕ) → m ≤ 16 → 1 * 2 ^ m % 4294967296 - 1 + 1 ≡ 2 ^ m
+whole m l = let h : 2 ^ m ≤ 65536 = pow_mono l in omega (arith, pow_pos m)
 
 ones_at : (m j : ℕ) → j < m → get_or (replicate {A = ℕ} m 1) j 0 ≡ 1
 ones_at zero j l = absurd (omega arith)

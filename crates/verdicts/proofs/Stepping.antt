@@ -2,7 +2,7 @@
 use mathlib.Core.Path.{◌≡◌, refl, sym, ap, ◌∙◌}
 use mathlib.Core.Bool.{Bool, true, false, cond}
 use mathlib.Core.List.{List, [], ◌∷◌}
-use Prim.Native.Nat.{ℕ, zero, suc, ◌+◌, ◌-◌, ◌≤◌, ◌<◌}
+use Prim.Native.Nat.{ℕ, zero, suc, ◌+◌, ◌-◌, ◌^◌, ◌≤◌, ◌<◌}
 use native.Mathlib.Omega.{arith}
 use lib.ListN.{length, get_or, replicate, length-replicate, length-append, get_or-append, get_or-eq_default}
 use lib.Seq.{get_or_at}
@@ -15,14 +15,14 @@ use Rattle.race.specs.declared.Tally.{Tally}
 use Rattle.race.specs.Inner.Raced.{Raced, Room, judged}
 use Rattle.race.proofs.Cases.{tested, same?}
 use Rattle.race.proofs.Standing.{no_score, scored_settled, settled_alike}
-use Rattle.verdicts.specs.Inner.Told.{digit, Fair, verdict_in}
-use Rattle.verdicts.specs.Inner.Deficits.{is_right, some_of, claims, gain, Behind}
+use Rattle.verdicts.specs.Inner.Told.{digit, verdict_in}
+use Rattle.verdicts.specs.Inner.Deficits.{is_right, gain, Behind}
 use Rattle.verdicts.specs.Inner.Planes.{bit_at, deficit_at, signs}
 use Rattle.verdicts.specs.Inner.Racing.{scores_of, Holds}
 use Rattle.verdicts.specs.Inner.Steps.{Passable, Onwards}
 use Rattle.verdicts.specs.declared.Masks.{Masks}
 use Rattle.verdicts.proofs.Digits.{digit_le, digit_one}
-use Rattle.verdicts.proofs.Deficits.{one, winner_next, behind_next}
+use Rattle.verdicts.proofs.Deficits.{winner_next, behind_next}
 use Rattle.verdicts.proofs.Lows.{low_none}
 use Rattle.verdicts.proofs.Signs.{signs_none}
 use Rattle.verdicts.proofs.Tops.{digit_zero, unset}
@@ -58,40 +58,44 @@ scores_none m n =
     (λ j l. let h : j < m = omega (arith, scores_length 0 (replicate n 0) (replicate m 0) m) in
     omega (arith, scores_at 0 (replicate n 0) (replicate m 0) m j h, no_score m j))
 
-pub holds_none : (m n : ℕ) → 16 ≡ m → Holds (replicate n 0) (replicate m 0) 0 0 0
-holds_none m n e =
+pub holds_none : (m n : ℕ) → 0 < m → m ≤ 16 → Holds m (replicate n 0) (replicate m 0) 0 0 0
+holds_none m n some few =
     record {
+      few = few;
+      many = length-replicate {A = ℕ} m 0;
       far_is = sym (signs_none m);
-      within = omega arith;
+      within = some;
       behind = λ j l. omega (arith, low_none n j, no_score m j);
       winner_none = omega (arith, low_none n 0, no_score m 0);
     }
 
 -- ---- what the code holds
 
--- the standing that is seen
-abbrev pub seen : List ℕ → List ℕ → ℕ → ℕ → Standing
-seen planes up winner score = record { winner = winner; scores = scores_of score planes up 16 }
+-- the standing of m sub-predictors that is seen
+abbrev pub seen : ℕ → List ℕ → List ℕ → ℕ → ℕ → Standing
+seen m planes up winner score = record { winner = winner; scores = scores_of score planes up m }
 
-module _ {planes up : List ℕ} {far winner score : ℕ} (H : Holds planes up far winner score) where
-  pub held_behind : Behind 16 (seen planes up winner score) score (deficit_at planes up)
+module _ {m : ℕ} {planes up : List ℕ} {far winner score : ℕ} (H : Holds m planes up far winner score) where
+  pub held_behind : Behind m (seen m planes up winner score) score (deficit_at planes up)
   held_behind =
       record {
         within = H.within;
-        scores_are = scores_length score planes up 16;
-        sums = λ j l. omega (arith, scores_at score planes up 16 j l, H.behind j l);
+        scores_are = scores_length score planes up m;
+        sums = λ j l. omega (arith, scores_at score planes up m j l, H.behind j l);
         winner_none = H.winner_none;
       }
 
   -- the winner's score
-  pub held_score : get_or (scores_of score planes up 16) winner 0 ≡ score
-  held_score = omega (arith, scores_at score planes up 16 winner H.within, H.winner_none)
+  pub held_score : get_or (scores_of score planes up m) winner 0 ≡ score
+  held_score = omega (arith, scores_at score planes up m winner H.within, H.winner_none)
 
 -- and back
-pub behind_holds : {planes up : List ℕ} {far winner score : ℕ} {st : Standing} → Behind 16 st score (deficit_at planes up) → far ≡ signs up
-    → winner ≡ st.winner → Holds planes up far winner score
-behind_holds B f w =
+pub behind_holds : {m : ℕ} {planes up : List ℕ} {far winner score : ℕ} {st : Standing} → Behind m st score (deficit_at planes up) → m ≤ 16
+    → length up ≡ m → far ≡ signs up → winner ≡ st.winner → Holds m planes up far winner score
+behind_holds B few many f w =
     record {
+      few = few;
+      many = many;
       far_is = f;
       within = rw w B.within;
       behind = λ j l. omega (arith, B.sums j l);
@@ -112,7 +116,7 @@ judged_back hit = refl
 judged_back miss = refl
 judged_back none = refl
 
-same_standing : {w : ℕ} {s : List ℕ} {st : Standing} → w ≡ st.winner → s ≡ st.scores → (let a : Standing = record { winner = w; scores = s } in a) ≡ st
+pub same_standing : {w : ℕ} {s : List ℕ} {st : Standing} → w ≡ st.winner → s ≡ st.scores → (let a : Standing = record { winner = w; scores = s } in a) ≡ st
 same_standing p q = rw (p, q) refl
 
 -- who is right by the masks
@@ -135,9 +139,9 @@ settled_missed v st (suc m) e = stays (v m) (settled v st m) m (e m (omega arith
     stays miss s j e = refl
     stays none s j e = refl
 
-module _ {planes up : List ℕ} {far winner score : ℕ} (H : Holds planes up far winner score) {masks : Masks} (F : Fair 16 masks) where
+module _ {m : ℕ} {planes up : List ℕ} {far winner score : ℕ} (H : Holds m planes up far winner score) (masks : Masks) where
   abbrev st : Standing
-  st = seen planes up winner score
+  st = seen m planes up winner score
 
   -- what is seen, where the counts are t
   module _ {t : Tally} {r : Raced} (V : (let a : Raced = record { standing = st; tally = t } in a) ≡ r) where
@@ -146,72 +150,70 @@ module _ {planes up : List ℕ} {far winner score : ℕ} (H : Holds planes up fa
         let room : Room (record { standing = st; tally = t }) = rw V R in
         omega (arith, held_score H, room.scores.scores_fit winner)
 
-  pub quiet : masks.rights ≡ 0 → settled (verdict_in masks) st 16 ≡ st
+    -- what the deficits need
+    pub passable : Room r → masks.rights < 2 ^ m → {all : ℕ} → all + 1 ≡ 2 ^ m → Passable far up masks.rights all
+    passable R narrow whole =
+        let fits : score < counter_limit = score_fits R in
+        record {
+          few = omega (arith, H.few, H.many);
+          whole = rw H.many whole;
+          fit = λ j. dec (λ (l : j < m). omega (arith, H.behind j l))
+              (λ (l : m ≤ j). omega (arith, get_or-eq_default up 0 {n = j} (omega (arith, H.many))));
+          far_is = H.far_is;
+          narrow = rw H.many narrow;
+        }
+      where
+        dec : {A : Type 0} {j : ℕ} → (j < m → A) → (m ≤ j → A) → A
+        dec {A} {j} f g = tested (ltb j m) (λ t. f (ltb-true _ _ t)) (λ t. g (ltb-false _ _ t))
+
+  pub quiet : masks.rights ≡ 0 → settled (verdict_in masks) st m ≡ st
   quiet z =
-      settled_missed (verdict_in masks) st 16
+      settled_missed (verdict_in masks) st m
       (λ j l. sym (right_in masks j) ∙ unset masks.rights j (ap (λ (n : ℕ). digit n j) z ∙ digit_zero j))
 
   -- the whole place then
   pub seen_quiet : {t t' : Tally} {r : Raced} → (let a : Raced = record { standing = st; tally = t } in a) ≡ r → t' ≡ tallied (verdict_in masks winner) t
-      → masks.rights ≡ 0 → (let a : Raced = record { standing = st; tally = t' } in a) ≡ judged 16 r (verdict_in masks)
+      → masks.rights ≡ 0 → (let a : Raced = record { standing = st; tally = t' } in a) ≡ judged m r (verdict_in masks)
   seen_quiet V e z = rw (← V, e, quiet z) refl
 
-  module _ (many : length up ≡ 16) where
-    pub passable : {t : Tally} {r : Raced} → (let a : Raced = record { standing = st; tally = t } in a) ≡ r → Room r → Passable far up masks.rights 65535
-    passable V R =
-        let fits : score < counter_limit = score_fits V R in
-        record {
-          few = omega arith;
-          whole = rw many refl;
-          fit = λ j. dec (λ (l : j < 16). omega (arith, H.behind j l)) (λ (l : 16 ≤ j). omega (arith, get_or-eq_default up 0 {n = j} (omega arith)));
-          far_is = H.far_is;
-          narrow = rw many F.few;
-        }
-      where
-        dec : {A : Type 0} {j : ℕ} → (j < 16 → A) → (16 ≤ j → A) → A
-        dec {A} {j} f g = tested (ltb j 16) (λ t. f (ltb-true _ _ t)) (λ t. g (ltb-false _ _ t))
+  module _ {planes' up' : List ℕ} {far' winner' gained : ℕ} (O : Onwards planes up masks.rights winner planes' far' up' winner' gained) where
+    abbrev right : ℕ → Bool
+    right = bit_at masks.rights
 
-    module _ {planes' up' : List ℕ} {far' winner' gained : ℕ} (O : Onwards planes up masks.rights winner planes' far' up' winner' gained) where
-      abbrev right : ℕ → Bool
-      right = bit_at masks.rights
+    abbrev before : ℕ → ℕ
+    before = deficit_at planes up
 
-      abbrev before : ℕ → ℕ
-      before = deficit_at planes up
+    abbrev said : ℕ → Guess
+    said j = guess_of (verdict_in masks j)
 
-      abbrev said : ℕ → Guess
-      said j = guess_of (verdict_in masks j)
+    rights_are : (j : ℕ) → j < m → right j ≡ is_right (judge (said j) 1)
+    rights_are j l = right_in masks j ∙ ap is_right (sym (judged_back (verdict_in masks j)))
 
-      rights_are : (j : ℕ) → j < 16 → right j ≡ is_right (judge (said j) 1)
-      rights_are j l = right_in masks j ∙ ap is_right (sym (judged_back (verdict_in masks j)))
+    gained_is : gained ≡ gain right before m
+    gained_is = rw H.many at O.gained_is
 
-      gained_is : gained ≡ gain right before 16
-      gained_is = rw many at O.gained_is
+    next : Behind m (scored said 1 st m) (score + gained) (deficit_at planes' up')
+    next =
+        rw gained_is
+        (behind_next m said 1 st score before right (held_behind H) rights_are (deficit_at planes' up')
+        (λ j l. rw (digit_one (digit masks.rights j) (digit_le masks.rights j), ← gained_is) (O.moves.each j (rw H.many l))))
 
-      pub gained_le : gained ≤ 1
-      gained_le = rw O.gained_is (one (some_of (claims right before 0) (length up)))
+    goes : scored said 1 st m ≡ settled (verdict_in masks) st m
+    goes =
+        scored_settled said 1 st m
+        ∙ settled_alike (λ j. judge (said j) 1) (verdict_in masks) st m (λ j l. judged_back (verdict_in masks j))
 
-      next : Behind 16 (scored said 1 st 16) (score + gained) (deficit_at planes' up')
-      next =
-          rw gained_is
-          (behind_next 16 said 1 st score before right (held_behind H) rights_are (deficit_at planes' up')
-          (λ j l. rw (digit_one (digit masks.rights j) (digit_le masks.rights j), ← gained_is) (O.moves.each j (rw many l))))
+    winner_is : winner' ≡ (scored said 1 st m).winner
+    winner_is = O.winner_is ∙ rw H.many (sym (winner_next m said 1 st score before right (held_behind H) rights_are))
 
-      goes : scored said 1 st 16 ≡ settled (verdict_in masks) st 16
-      goes =
-          scored_settled said 1 st 16
-          ∙ settled_alike (λ j. judge (said j) 1) (verdict_in masks) st 16 (λ j l. judged_back (verdict_in masks j))
+    -- the standing of the next place
+    pub stands_next : seen m planes' up' winner' (score + gained) ≡ settled (verdict_in masks) st m
+    stands_next = same_standing winner_is (scores_behind (score + gained) planes' up' next) ∙ goes
 
-      winner_is : winner' ≡ (scored said 1 st 16).winner
-      winner_is = O.winner_is ∙ rw many (sym (winner_next 16 said 1 st score before right (held_behind H) rights_are))
+    pub holds_next : Holds m planes' up' far' winner' (score + gained)
+    holds_next = behind_holds next H.few (O.moves.many ∙ H.many) O.moves.far_is winner_is
 
-      -- the standing of the next place
-      pub stands_next : seen planes' up' winner' (score + gained) ≡ settled (verdict_in masks) st 16
-      stands_next = same_standing winner_is (scores_behind (score + gained) planes' up' next) ∙ goes
-
-      pub holds_next : Holds planes' up' far' winner' (score + gained)
-      holds_next = behind_holds next O.moves.far_is winner_is
-
-      -- and the counts
-      pub seen_next : {t t' : Tally} {r : Raced} → (let a : Raced = record { standing = st; tally = t } in a) ≡ r → t' ≡ tallied (verdict_in masks winner) t
-          → (let a : Raced = record { standing = seen planes' up' winner' (score + gained); tally = t' } in a) ≡ judged 16 r (verdict_in masks)
-      seen_next V e = rw (← V, e, stands_next) refl
+    -- and the counts
+    pub seen_next : {t t' : Tally} {r : Raced} → (let a : Raced = record { standing = st; tally = t } in a) ≡ r → t' ≡ tallied (verdict_in masks winner) t
+        → (let a : Raced = record { standing = seen m planes' up' winner' (score + gained); tally = t' } in a) ≡ judged m r (verdict_in masks)
+    seen_next V e = rw (← V, e, stands_next) refl

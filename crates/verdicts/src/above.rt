@@ -1,11 +1,11 @@
 // What the deficits have above their low digits: a number for each sub-predictor, in units of 64.
-ghost use Rattle.std.specs.Prelude.{◌≡◌};
+ghost use Rattle.std.specs.Prelude.{◌≡◌, ◌≤◌};
 ghost use Rattle.verdicts.specs.Inner.Planes.{Shiftable, Shifted, signs};
 
-use crate::COUNT;
-
-// All numbers gain `gained`, and those at the digits of `less` lose 1.
-pub fn shift(up: &mut [u64; COUNT], less: u32, gained: u64)
+// All numbers gain `gained`, and those at the digits of `less` lose 1. Not inlined: it is seldom asked, and would take the registers of the
+// loop over the places.
+#[inline(never)]
+pub fn shift<const M: usize>(up: &mut [u64; M], less: u32, gained: u64)
     requires { Shiftable up.old less gained }
     ensures { Shifted up.old less gained up.new }
 {
@@ -15,11 +15,12 @@ pub fn shift(up: &mut [u64; COUNT], less: u32, gained: u64)
 }
 
 // The mask of the numbers that are not 0.
-pub fn mask_of(up: &[u64; COUNT]) -> u32
+pub fn mask_of<const M: usize>(up: &[u64; M]) -> u32
+    requires { M ≤ 16 }
     ensures { result ≡ signs up.now }
 {
     let mut far: u32 = 0;
-    for j in (0..COUNT).rev() {
+    for j in (0..M).rev() {
         far = far * 2 + (up[j] != 0) as u32;
     }
     far

@@ -6,8 +6,7 @@ pub mod place;
 mod planes;
 mod tally;
 
-// How many sub-predictors race.
-const COUNT: usize = 16;
+pub use place::Race;
 
 // The verdicts on the sub-predictors at a place: digit j of `rights` is 1 where j was right, digit j of `speaking` where it spoke.
 #[derive(Clone, Copy)]

@@ -1,53 +1,65 @@
 // The race from place to place.
-ghost use Rattle.std.specs.Prelude.{◌≡◌};
+ghost use Rattle.std.specs.Prelude.{◌≡◌, ◌≤◌, ◌<◌, ◌^◌};
 ghost use Rattle.race.specs.Inner.Raced.{Room, judged, outcome_in, unraced};
-ghost use Rattle.verdicts.specs.Inner.Told.{Fair, verdict_in};
+ghost use Rattle.verdicts.specs.Inner.Racing.{raced_in};
+ghost use Rattle.verdicts.specs.Inner.Told.{digit, verdict_in};
 
+use crate::Masks;
 use crate::above::{mask_of, shift};
 use crate::planes::{choose, claim, ripple, top_bit};
 use crate::tally::count_masks;
-use crate::{COUNT, Masks};
 use race::{Outcome, Tally};
 use std::marker::Model;
 
-// The mask of every sub-predictor.
-const ALL: u32 = 0xffff;
-
-// The race of sixteen sub-predictors after some places. The deficit of each is how far its score is behind the largest, which is the winner's:
+// The race of M sub-predictors, sixteen at most, after some places. The deficit of each is how far its score is behind the largest, which is the winner's:
 // digit j of planes[k] is digit k of the deficit of j, up[j] has what is above six digits, and digit j of `far` is 1 where that is not 0.
-#[derive(Drop)]
-pub struct Race {
+#[derive(Clone, Copy)]
+pub struct Race<const M: usize> {
     planes: [u32; 6],
-    up: [u64; COUNT],
+    up: [u64; M],
     far: u32,
     winner: usize,
     score: u64,
     tally: Tally,
 }
 
-// Clauses see the standing and the counts.
-impl Model for Race {
-    ghost use Rattle.race.specs.Inner.Raced.{Raced};
-    ghost use Rattle.verdicts.specs.Inner.Racing.{Holds, scores_of};
+// Clauses see the fields, and `raced_in` says what standing and counts they stand for.
+impl<const M: usize> Model for Race<M> {
+    ghost use Rattle.verdicts.specs.Inner.Racing.{Fields, Holds};
 
-    ghost Value = { Raced };
+    ghost Value = { Fields };
 
     ghost view = { λ r. record {
-      standing = record { winner = r.winner; scores = scores_of r.score r.planes r.up 16 };
+      planes = r.planes;
+      up = r.up;
+      far = r.far;
+      winner = r.winner;
+      score = r.score;
       tally = r.tally;
     } };
 
-    ghost invariant = { λ r. Holds r.planes r.up r.far r.winner r.score };
+    ghost invariant = { λ r. Holds M r.planes r.up r.far r.winner r.score };
+
+    ghost inverse = { λ r. record {
+      planes = r.planes;
+      up = r.up;
+      far = r.far;
+      winner = r.winner;
+      score = r.score;
+      tally = r.tally;
+    } };
 }
 
-impl Race {
+impl<const M: usize> Race<M> {
     // Before the first place nobody has a score.
     pub fn new() -> Self
-        ensures { result ≡ unraced 16 }
+        requires some { 0 < M }
+        requires few { M ≤ 16 }
+        ensures { raced_in M result ≡ unraced M }
     {
         Race {
             planes: [0; 6],
-            up: [0; COUNT],
+            up: [0; M],
             far: 0,
             winner: 0,
             score: 0,
@@ -57,29 +69,39 @@ impl Race {
 
     // One place: the winner's verdict is counted, and each right one gains a point. Where none was right no score moves.
     pub fn step(&mut self, masks: Masks)
-        requires room { Room self.old }
-        requires fair { Fair 16 masks }
-        ensures { self.new ≡ judged 16 self.old (verdict_in masks) }
+        requires room { Room (raced_in M self.old) }
+        requires narrow { masks.rights < 2 ^ M }
+        requires spoke { digit masks.rights self.old.winner ≤ digit masks.speaking self.old.winner }
+        ensures { raced_in M self.new ≡ judged M (raced_in M self.old) (verdict_in masks) }
     {
         let rights = masks.rights;
         self.tally = count_masks(self.tally, masks, self.winner);
         if rights == 0 {
             return;
         }
+        // every sub-predictor
+        let all: u32 = (1 << M) - 1;
         let claimed = claim(&self.planes, self.far, rights);
-        let choice = choose(claimed, rights, ALL);
+        let choice = choose(claimed, rights, all);
         self.winner = top_bit(choice.claim, self.winner);
         self.score += choice.gained;
         let carry = ripple(&mut self.planes, choice.through, choice.away);
         if carry != 0 {
-            shift(&mut self.up, carry ^ (choice.away ^ ALL), choice.gained);
+            shift(&mut self.up, carry ^ (choice.away ^ all), choice.gained);
             self.far = mask_of(&self.up);
         }
     }
 
+    // The counts so far.
+    pub fn tally(&self) -> Tally
+        ensures { result ≡ self.now.tally }
+    {
+        self.tally
+    }
+
     // How the race ends.
     pub fn outcome(&self) -> Outcome
-        ensures { result ≡ outcome_in self.now }
+        ensures { result ≡ outcome_in (raced_in M self.now) }
     {
         Outcome {
             hits: self.tally.hits,

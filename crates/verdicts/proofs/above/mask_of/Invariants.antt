@@ -4,4 +4,4 @@ use Rattle.verdicts.specs.Inner.Planes.{signs}
 use Rattle.verdicts.proofs.above.mask_of.Given as goal
 
 abbrev pub invariant-loop-j : goal.invariant-loop-j
-invariant-loop-j l = l.far ≡ signs (drop l.j l.up)
+invariant-loop-j g l = l.far ≡ signs (drop l.j l.up)

@@ -4,7 +4,7 @@ use Rattle.verdicts.proofs.Stepping.{holds_none, scores_none}
 use Rattle.verdicts.proofs.place.Race.new.Goals as goal
 
 pub invariant_of-result : goal.invariant_of-result
-invariant_of-result c = holds_none 16 6 refl
+invariant_of-result g c = holds_none g.row.M 6 c.requires.some c.requires.few
 
 pub returns : goal.returns
-returns c = let d = c.default.ensures in rw (scores_none 16 6, d.0, d.1.0, d.1.1) refl
+returns g c = let d = c.default.ensures in rw (scores_none g.row.M 6, d.0, d.1.0, d.1.1) refl

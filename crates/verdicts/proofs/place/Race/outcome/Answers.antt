@@ -4,4 +4,4 @@ use Rattle.verdicts.proofs.Stepping.{held_score}
 use Rattle.verdicts.proofs.place.Race.outcome.Goals as goal
 
 pub returns : goal.returns
-returns c = rw (← c.self.view_is, held_score c.self.invariant) refl
+returns g c = rw (← c.self.view_is, held_score c.self.invariant) refl
