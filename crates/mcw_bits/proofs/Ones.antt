@@ -16,7 +16,6 @@ use Rattle.mcw_bits.specs.Commonest.{occurrences, commonest, window}
 use Rattle.mcw_bits.specs.Mcw.{size, said}
 use Rattle.mcw_bits.specs.Inner.Ones.{Ones, AllOnes, Ring, past_in, Rolled, Rolls, AllRoll, majority_of, Small}
 use Rattle.mcw_bits.specs.Inner.Say.{Sayings, say_of}
-use Rattle.std.specs.Prelude.{Option}
 use Rattle.mcw_bits.proofs.Counting.{before_same, before_other, before_le, before_mono, occ_part}
 use Rattle.mcw_bits.proofs.Commonest.{bit_zero, bits_commonest}
 use Rattle.capture.specs.Inner.Sources.{AreBits}
@@ -108,7 +107,7 @@ module _ {s : List ℕ} {i : ℕ} (B : AreBits s) (h : i ≤ length s) (m : ℕ)
   vote_says : m + m + 1 ≤ i → commonest (window s i (m + m + 1)) ≡ majority_of c (m + m + 1)
   vote_says l = rw (← window_ones l) (bits_commonest (window s i (m + m + 1)) m (window_length l) (window_bit l))
 
-  vote_heard : heard (say_of c i (m + m + 1)) ≡ cond (leb (m + m + 1) i) (says (commonest (window s i (m + m + 1)))) silent
+  vote_heard : heard (say_of (majority_of c (m + m + 1)) i (m + m + 1)) ≡ cond (leb (m + m + 1) i) (says (commonest (window s i (m + m + 1)))) silent
   vote_heard =
       tested (leb (m + m + 1) i)
       (λ t. rw (t, vote_says (leb-true (m + m + 1) i t)) (tested (ltb (m + m + 1) (c + c)) (λ u. rw u) (λ u. rw u)))
@@ -120,7 +119,7 @@ module _ {s : List ℕ} {i : ℕ} {ones : List ℕ} (B : AreBits s) (A : AllOnes
   unfolding said
   votes_heard h {gs} S j l =
       ap heard (S.each j l)
-      ∙ four (λ (j : ℕ). heard (say_of (get_or ones j 0) i (size j)) ≡ cond (leb (size j) i) (says (commonest (window s i (size j)))) silent)
+      ∙ four (λ (j : ℕ). heard (say_of (majority_of (get_or ones j 0) (size j)) i (size j)) ≡ cond (leb (size j) i) (says (commonest (window s i (size j)))) silent)
       (vote_heard B h 31 (A.each 0 (omega arith))) (vote_heard B h 127 (A.each 1 (omega arith)))
       (vote_heard B h 511 (A.each 2 (omega arith))) (vote_heard B h 2047 (A.each 3 (omega arith)))
       j l

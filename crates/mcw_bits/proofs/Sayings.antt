@@ -1,23 +1,20 @@
--- Four numbers, or four guesses, written one after the other. Assumes nothing.
-use mathlib.Core.Path.{◌≡◌, refl, sym, ◌∙◌}
-use mathlib.Core.List.{List}
+-- Four numbers, or four guesses, written one after the other; from the longest window's size on every window takes part. Assumes nothing.
+use mathlib.Core.Path.{◌≡◌, refl, ◌∙◌}
+use mathlib.Core.List.{List, [], ◌∷◌}
 use mathlib.Core.Bool.{cond}
 use Prim.Native.Nat.{ℕ, ◌+◌, ◌-◌, ◌≤◌, ◌<◌}
 use native.Mathlib.Omega.{arith}
 use lib.Dec.{leb}
-use lib.ListN.{length, get_or, set, replicate, length-set, get_or-replicate, get_or-eq_default}
+use lib.ListN.{length, get_or, set, length-set}
 use lib.Seq.{ext_get_or}
-use native.Mathlib.Decide.{dec_le}
-use native.Mathlib.Nat.{lt_of_not-le}
-use Rattle.race.specs.Inner.Raced.{Raced, counted, pointed, raced_on}
 use lib.Seq.{get_or-set_same, get_or-set_other}
 use borrow.Author.Tests.{le-leb, lt-leb}
-use Rattle.std.specs.Prelude.{Option, Some, None}
 use Rattle.race.proofs.Cases.{same?}
 use Rattle.mcw_bits.specs.Mcw.{size}
 use Rattle.mcw_bits.specs.Inner.Ones.{Rolled, majority_of, past_in}
 use Rattle.race.specs.Inner.Held.{silence}
-use Rattle.mcw_bits.specs.Inner.Say.{Hushed, Sayings, Votes}
+use Rattle.mcw_bits.specs.Inner.Say.{Hushed, Sayings, Votes, sayings}
+use Rattle.mcw_bits.specs.declared.Four.{Four}
 use Rattle.mcw_bits.proofs.Place.{four}
 
 -- what holds of the elements before place m, and of the new one, holds before m + 1
@@ -84,3 +81,15 @@ says_all {ones} {votes} {i} V h =
   where
     longest : (j : ℕ) → j < 4 → size j ≤ size 3
     longest = four (λ (j : ℕ). size j ≤ size 3) (omega arith) (omega arith) (omega arith) (omega arith)
+
+-- the same of four symbols
+pub symbols_hushed : (f : Four) {i : ℕ} {says : List ℕ} → Hushed (f.first ∷ f.second ∷ f.third ∷ f.fourth ∷ []) i 4 says → says ≡ sayings f i
+symbols_hushed f {i} {says} H =
+    ext_get_or 0 says (sayings f i) H.full
+    (λ j l.
+    four (λ (k : ℕ). get_or says k 0 ≡ get_or (sayings f i) k 0) (H.past 0 (omega arith)) (H.past 1 (omega arith)) (H.past 2 (omega arith))
+    (H.past 3 (omega arith)) j (omega (arith, H.full)))
+
+pub symbols_all : (f : Four) (i : ℕ) → size 3 ≤ i → f.first ∷ f.second ∷ f.third ∷ f.fourth ∷ [] ≡ sayings f i
+symbols_all f i l =
+    rw (le-leb (size 0) i (omega arith), le-leb (size 1) i (omega arith), le-leb (size 2) i (omega arith), le-leb (size 3) i l)

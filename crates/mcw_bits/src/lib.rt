@@ -2,7 +2,7 @@
 #![tactic(auto)]
 
 pub mod run;
-mod say;
+pub mod say;
 mod windows;
 
 // The windows' sizes, shortest first.
@@ -15,3 +15,12 @@ pub const THIRD: usize = 1023;
 pub const FOURTH: usize = 4095;
 
 pub const WINDOWS: [usize; 4] = [FIRST, SECOND, THIRD, FOURTH];
+
+// One number for each window.
+#[derive(Clone, Copy)]
+pub struct Four {
+    pub first: usize,
+    pub second: usize,
+    pub third: usize,
+    pub fourth: usize,
+}

@@ -2,7 +2,7 @@
 ghost use Rattle.std.specs.Prelude.{◌≡◌};
 ghost use Rattle.mcw_bits.specs.Mcw.{outcome_of};
 
-use crate::say::say_all;
+use crate::say::say_majorities;
 use crate::windows::roll_all;
 use capture::source::Source;
 use race::{Leader, Outcome, SILENT, Tally, count, ended, lead};
@@ -24,7 +24,7 @@ pub fn mcw_bits(source: Source) -> Outcome
     let mut says = [SILENT; 4];
     for (i, bit) in source.bits().enumerate() {
         let x = u16::from(bit);
-        say_all(&mut says, &ones, i);
+        say_majorities(&mut says, &ones, i);
         let winner = leader.winner;
         t = count(t, says[winner], x);
         leader = lead(&mut scores, &says, leader, x);

@@ -1,10 +1,10 @@
 // What the windows say of a place.
 ghost use Rattle.std.specs.Prelude.{◌≡◌, ◌<◌, length};
 ghost use Rattle.mcw_bits.specs.Inner.Ones.{Small};
-ghost use Rattle.mcw_bits.specs.Inner.Say.{Hushed, Sayings, Votes};
+ghost use Rattle.mcw_bits.specs.Inner.Say.{Hushed, Sayings, Symbols, Votes, sayings};
 
 use crate::windows::majority;
-use crate::{FOURTH, WINDOWS};
+use crate::{FOURTH, Four, WINDOWS};
 use race::SILENT;
 
 // The commonest bit of each window.
@@ -34,7 +34,7 @@ fn hush(says: &mut [u16; 4], i: usize)
 
 // What the four windows say of place i, by the ones in each.
 #[tactic(auto, using(crate::proofs::Sayings::says_hushed, crate::proofs::Sayings::says_all))]
-pub fn say_all(says: &mut [u16; 4], ones: &[usize; 4], i: usize)
+pub fn say_majorities(says: &mut [u16; 4], ones: &[usize; 4], i: usize)
     requires small { Small ones.now }
     requires four { length says.old ≡ 4 }
     ensures { Sayings ones.now i says.new }
@@ -42,5 +42,22 @@ pub fn say_all(says: &mut [u16; 4], ones: &[usize; 4], i: usize)
     vote(says, ones);
     if i < FOURTH {
         hush(says, i);
+    }
+}
+
+// What the four windows say of place i, where f are their commonest symbols.
+#[tactic(auto, using(crate::proofs::Sayings::symbols_hushed, crate::proofs::Sayings::symbols_all))]
+pub fn say_all(g: &mut [u16; 4], f: Four, i: usize)
+    requires { (length g.old ≡ 4) × Symbols f }
+    ensures { g.new ≡ sayings f i }
+{
+    *g = [
+        f.first as u16,
+        f.second as u16,
+        f.third as u16,
+        f.fourth as u16,
+    ];
+    if i < FOURTH {
+        hush(g, i);
     }
 }
