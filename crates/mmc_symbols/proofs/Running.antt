@@ -1,15 +1,17 @@
--- The places, one after the other: the lent numbers keep the levels, and the race goes on. At the end the first numbers of the space are cleared.
+-- The places, one after the other: the lent numbers keep the levels, and the race goes on. At the end all numbers of the space are cleared.
 -- Assumes nothing.
 use Prim.Native.Nat.{ℕ, suc, ◌+◌, ◌-◌, ◌*◌, ◌≤◌, ◌<◌}
-use mathlib.Core.Path.{◌≡◌, sym, ap, ◌∙◌}
+use mathlib.Core.Path.{◌≡◌, refl, sym, ap, ◌∙◌}
 use mathlib.Core.List.{List, ◌++◌}
 use native.Mathlib.Omega.{arith}
 use lib.ListN.{length, get_or, replicate, drop, length-append, length-drop, length-replicate}
 use borrow.Author.Tests.{le-ltb}
+use Rattle.std.proofs.lemmas.List.{ext_get_or}
 use Rattle.capture.specs.Limit.{symbol_limit}
 use Rattle.std.specs.Prelude.{Option}
 use Rattle.race.specs.Race.{silent, judge, sample}
 use Rattle.race.specs.Inner.Raced.{Raced, Room, heard, heard_from, unraced, raced_on, raced_at, outcome_in}
+use Rattle.race.proofs.Standing.{no_score}
 use Rattle.race.proofs.Placing.{raced_none, raced_room, raced_place, raced_ends}
 use Rattle.mmc_bits.specs.Levels.{levels, first_place}
 use Rattle.table.specs.Inner.Table as T
@@ -103,10 +105,17 @@ module _ {n cap : ℕ} {s space es nodes : List ℕ} {race : Raced} {i : ℕ} (r
   pub run_ends : length s ≤ i → outcome_in race ≡ outcome_of n cap s
   run_ends l = rw r.raced (raced_ends n first_place (guess cap s) s i (omega (arith, r.within)))
 
--- ---- the first numbers of the space were lent to the run, which left m there, and then all are cleared
-pub cleared : (m xs : List ℕ) {z : List ℕ} → length m ≡ 11141120 → length xs ≡ 16777216 → z ≡ replicate (length (m ++ drop 11141120 xs)) 0
-    → z ≡ replicate (size levels) 0
+-- ---- numbers that are all 0
+
+pub all_zero : (n : ℕ) (xs : List ℕ) → length xs ≡ n → ((j : ℕ) → j < n → get_or xs j 0 ≡ 0) → xs ≡ replicate n 0
+all_zero n xs e z =
+    ext_get_or 0 xs (replicate n 0) (e ∙ sym (length-replicate {A = ℕ} n 0)) (λ j l. z j (omega arith) ∙ sym (no_score n j))
+
+-- as many as the space has
+pub size_is : size levels ≡ 16777216
 unfolding size
-cleared m xs a b e =
-    let long : length (m ++ drop 11141120 xs) ≡ 16777216 = omega (arith, length-append m (drop 11141120 xs), length-drop 11141120 xs) in
-    e ∙ ap (λ (k : ℕ). replicate k 0) long
+size_is = refl
+
+-- the first numbers of the space were lent to the run, which left m there
+pub lent_long : (m xs : List ℕ) → length m ≡ 11141120 → length xs ≡ 16777216 → length (m ++ drop 11141120 xs) ≡ 16777216
+lent_long m xs a b = omega (arith, length-append m (drop 11141120 xs), length-drop 11141120 xs)

@@ -29,7 +29,8 @@ fn run(s: &[u8], store: &mut Store) -> Outcome
     let mut nodes = [0usize; 17];
     let mut race: Race<16> = Race::new();
     for (place, x) in s.iter().enumerate() {
-        let guesses = at_place(s, store, &mut entries, &mut nodes, place);
+        let mut guesses = [None; 16];
+        at_place(s, store, &mut entries, &mut nodes, &mut guesses, place);
         race.step(&guesses, *x);
     }
     race.outcome()
