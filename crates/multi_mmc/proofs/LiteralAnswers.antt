@@ -107,7 +107,6 @@ module _ (s out space : List ℕ) {n : ℕ} (e : n ≡ literal_number s out spac
       many_ran l p q = (rw (ran, lt-leb (distinct s) 2 l) p, rw ran o, rw (ran, lt-leb (distinct s) 2 l) q)
 
 -- what `accept_symbols` says of a capture that it takes
-pub accepted : (s out space : List ℕ) {short : Bool} → short ≡ (ltb (length out) (length s) || ltb (length space) (needed s))
+pub accepted : (s out space : List ℕ) (short : Bool) → symbols_refusal s least_samples short ≡ literal_number s out space
     → done ≡ symbols_refusal s least_samples short → 0 ≡ literal_number s out space
-unfolding literal_number
-accepted s out space e z = z ∙ ap (symbols_refusal s least_samples) e
+accepted s out space short e z = z ∙ e
