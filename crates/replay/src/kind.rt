@@ -1,4 +1,6 @@
 // The kinds of case.
+ghost use Rattle.std.specs.Prelude.{◌≤◌};
+
 use std::fmt;
 
 #[derive(Clone, Copy, PartialEq, Eq)]
@@ -52,7 +54,9 @@ impl TryFrom<u8> for Kind {
 
 impl Kind {
     // How many words a case has.
-    pub fn words(self) -> usize {
+    pub fn words(self) -> usize
+        ensures { result ≤ 13 }
+    {
         match self {
             Kind::Bit => 0,
             Kind::DenseAlphabet | Kind::ValueSortedAlphabet => 1,
