@@ -5,7 +5,7 @@ ghost use Rattle.std.specs.Prelude.{◌≡◌, Ok};
 ghost use Rattle.answer.specs.Results.{solved_of};
 ghost use Rattle.bisect.specs.Bisection.{local_of, log_alpha, midpoint, reached, solved_from};
 
-use crate::bracket::Bracket;
+pub use crate::bracket::Bracket;
 use answer::{Refusal, Solution};
 use counts::possible::Runs;
 use std::ops::ControlFlow;

@@ -12,6 +12,7 @@ ghost use Rattle.sqrt.specs.Inner.Steps.{Rooted, units_of};
 use crate::guess::guess;
 use crate::nearest::nearest;
 use crate::significand::Significand;
+pub use crate::significand::shift_of;
 
 pub mod guess;
 pub mod nearest;
