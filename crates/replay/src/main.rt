@@ -7,6 +7,7 @@ mod case;
 mod compare;
 mod expected;
 mod kind;
+mod list;
 mod numbers;
 mod tally;
 
@@ -14,9 +15,6 @@ use case::Case;
 use std::fs::File;
 use std::io;
 use tally::Tally;
-
-// How much of a list is read.
-const ROOM: usize = 524_288;
 
 // Counts every case of the list, up to its end or to a case that it ends within, which is none.
 fn replay(list: &[u8], tally: &mut Tally) -> Option<()> {
@@ -40,8 +38,7 @@ fn report(rt: &impl Print, list: &[u8]) -> io::Result<()> {
 
 fn main(rt: HostRuntime) -> io::Result<()> {
     let mut file = File::open(&rt, "answers.bin")?;
-    // Kept: (a) no heap and a fixed memory, a rule of the project: with a `Vec` a run could fail for want of memory.
-    let mut list = [0; ROOM];
+    let mut list = list::room();
     let n = reading::fill(&mut file, &mut list)?;
     report(&rt, &list[..n])
 }
