@@ -30,8 +30,7 @@ fn copy(symbols: &[u8], out: &mut [u8])
     }
 }
 
-// Numbers the values in rising order and translates. Returns how many there are. Not inlined, so that a refusal does not make room for a table.
-#[inline(never)]
+// Numbers the values in rising order and translates. Returns how many there are.
 fn number_by_value(symbols: &[u8], out: &mut [u8]) -> u64
     requires { length out.old ≡ length symbols.now }
     ensures { (result ≡ distinct symbols.now) × (out.new ≡ sorted symbols.now) }
