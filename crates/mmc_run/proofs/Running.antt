@@ -16,7 +16,8 @@ use Rattle.race.proofs.Cases.{tested}
 use Rattle.race.proofs.Standing.{no_score}
 use Rattle.verdicts.specs.declared.Masks.{Masks}
 use Rattle.verdicts.specs.Inner.Racing.{Racing}
-use Rattle.verdicts.specs.Inner.Told.{digit, verdict_in}
+use Rattle.verdicts.specs.Inner.Told.{digit, Fair, verdict_in}
+use Rattle.verdicts.proofs.Tallying.{told_fair}
 use Rattle.verdicts.proofs.Racing.{racing_starts, racing_room, racing_spoke, racing_place, racing_outcome}
 use Rattle.mmc_bits.specs.Levels.{levels, cap, first_place}
 use Rattle.mmc_bits.specs.Counters.{context}
@@ -123,6 +124,9 @@ module _ {b : List ℕ} {i : ℕ} {left : List ℕ} {recent stored : ℕ} {count
 
     -- and the levels have passed it
     module _ {stored' : ℕ} {masks : Masks} {counters' : List ℕ} (A : After b i stored' masks counters counters') where
+      pub place_fair : Fair 16 masks
+      place_fair = told_fair A.told
+
       pub place_narrow : masks.rights < 2 ^ 16
       place_narrow = A.told.few
 

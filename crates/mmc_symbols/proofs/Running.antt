@@ -119,3 +119,8 @@ size_is = refl
 -- the first numbers of the space were lent to the run, which left m there
 pub lent_long : (m xs : List ℕ) → length m ≡ 11141120 → length xs ≡ 16777216 → length (m ++ drop 11141120 xs) ≡ 16777216
 lent_long m xs a b = omega (arith, length-append m (drop 11141120 xs), length-drop 11141120 xs)
+
+-- and then all are cleared
+pub cleared : (m xs : List ℕ) {z : List ℕ} → length m ≡ 11141120 → length xs ≡ 16777216 → z ≡ replicate (length (m ++ drop 11141120 xs)) 0
+    → z ≡ replicate (size levels) 0
+cleared m xs a b e = e ∙ ap (λ (k : ℕ). replicate k 0) (lent_long m xs a b ∙ sym size_is)

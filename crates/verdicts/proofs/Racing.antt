@@ -55,7 +55,7 @@ module _ (m first : ℕ) (guess : ℕ → ℕ → Guess) (truth : ℕ → ℕ) (
       (λ j l. omega (arith, gain_enough r d m j l))) in
       rw e.0 at e.1
 
-  racing_after : m ≤ 16 → (n : ℕ) → Racing m first guess truth n (raced_after m first guess truth n)
+  pub racing_after : m ≤ 16 → (n : ℕ) → Racing m first guess truth n (raced_after m first guess truth n)
   racing_after few n =
       record {
         few = few;
@@ -79,7 +79,7 @@ module _ {m first : ℕ} {guess : ℕ → ℕ → Guess} {truth : ℕ → ℕ} {
   some : 0 < m
   some = omega (arith, racing_winner)
 
-  racing_is : race ≡ raced_after m first guess truth n
+  pub racing_is : race ≡ raced_after m first guess truth n
   racing_is = let s : race.standing ≡ standing m first guess truth n = same_standing R.winner_is R.scores_are in rw (← s, ← R.tally_is) refl
 
   -- ---- what a step needs

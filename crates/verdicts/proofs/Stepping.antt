@@ -16,13 +16,13 @@ use Rattle.race.specs.Inner.Raced.{Raced, Room, judged}
 use Rattle.race.proofs.Cases.{tested, same?}
 use Rattle.race.proofs.Standing.{no_score, scored_settled, settled_alike}
 use Rattle.verdicts.specs.Inner.Told.{digit, verdict_in}
-use Rattle.verdicts.specs.Inner.Deficits.{is_right, gain, Behind}
+use Rattle.verdicts.specs.Inner.Deficits.{is_right, some_of, claims, gain, Behind}
 use Rattle.verdicts.specs.Inner.Planes.{bit_at, deficit_at, signs}
-use Rattle.verdicts.specs.Inner.Racing.{scores_of, Holds}
+use Rattle.verdicts.specs.Inner.Racing.{scores_of, Holds, Leads}
 use Rattle.verdicts.specs.Inner.Steps.{Passable, Onwards}
 use Rattle.verdicts.specs.declared.Masks.{Masks}
 use Rattle.verdicts.proofs.Digits.{digit_le, digit_one}
-use Rattle.verdicts.proofs.Deficits.{winner_next, behind_next}
+use Rattle.verdicts.proofs.Deficits.{one, winner_next, behind_next}
 use Rattle.verdicts.proofs.Lows.{low_none}
 use Rattle.verdicts.proofs.Signs.{signs_none}
 use Rattle.verdicts.proofs.Tops.{digit_zero, unset}
@@ -75,19 +75,36 @@ holds_none m n some few =
 abbrev pub seen : ℕ → List ℕ → List ℕ → ℕ → ℕ → Standing
 seen m planes up winner score = record { winner = winner; scores = scores_of score planes up m }
 
-module _ {m : ℕ} {planes up : List ℕ} {far winner score : ℕ} (H : Holds m planes up far winner score) where
-  pub held_behind : Behind m (seen m planes up winner score) score (deficit_at planes up)
-  held_behind =
+module _ {m : ℕ} {planes up : List ℕ} {winner score : ℕ} (L : Leads m planes up winner score) where
+  pub leads_behind : Behind m (seen m planes up winner score) score (deficit_at planes up)
+  leads_behind =
       record {
-        within = H.within;
+        within = L.within;
         scores_are = scores_length score planes up m;
-        sums = λ j l. omega (arith, scores_at score planes up m j l, H.behind j l);
-        winner_none = H.winner_none;
+        sums = λ j l. omega (arith, scores_at score planes up m j l, L.behind j l);
+        winner_none = L.winner_none;
       }
 
   -- the winner's score
+  pub leads_score : get_or (scores_of score planes up m) winner 0 ≡ score
+  leads_score = omega (arith, scores_at score planes up m winner L.within, L.winner_none)
+
+  -- where there is room, the counts being t
+  pub leads_fits : {t : Tally} {r : Raced} → (let a : Raced = record { standing = seen m planes up winner score; tally = t } in a) ≡ r → Room r
+      → score < counter_limit
+  leads_fits {t} V R =
+      let room : Room (record { standing = seen m planes up winner score; tally = t }) = rw V R in
+      omega (arith, leads_score, room.scores.scores_fit winner)
+
+module _ {m : ℕ} {planes up : List ℕ} {far winner score : ℕ} (H : Holds m planes up far winner score) where
+  pub held_leads : Leads m planes up winner score
+  held_leads = record { within = H.within; behind = H.behind; winner_none = H.winner_none }
+
+  pub held_behind : Behind m (seen m planes up winner score) score (deficit_at planes up)
+  held_behind = leads_behind held_leads
+
   pub held_score : get_or (scores_of score planes up m) winner 0 ≡ score
-  held_score = omega (arith, scores_at score planes up m winner H.within, H.winner_none)
+  held_score = leads_score held_leads
 
 -- and back
 pub behind_holds : {m : ℕ} {planes up : List ℕ} {far winner score : ℕ} {st : Standing} → Behind m st score (deficit_at planes up) → m ≤ 16
@@ -139,6 +156,18 @@ settled_missed v st (suc m) e = stays (v m) (settled v st m) m (e m (omega arith
     stays miss s j e = refl
     stays none s j e = refl
 
+-- where nobody was right, by the masks
+module _ (m : ℕ) (masks : Masks) (z : masks.rights ≡ 0) where
+  pub settled_quiet : (st : Standing) → settled (verdict_in masks) st m ≡ st
+  settled_quiet st =
+      settled_missed (verdict_in masks) st m
+      (λ j l. sym (right_in masks j) ∙ unset masks.rights j (ap (λ (n : ℕ). digit n j) z ∙ digit_zero j))
+
+  -- the whole place then
+  pub judged_quiet : {st : Standing} {t t' : Tally} {r : Raced} → (let a : Raced = record { standing = st; tally = t } in a) ≡ r
+      → t' ≡ tallied (verdict_in masks st.winner) t → (let a : Raced = record { standing = st; tally = t' } in a) ≡ judged m r (verdict_in masks)
+  judged_quiet {st} V e = rw (← V, e, settled_quiet st) refl
+
 module _ {m : ℕ} {planes up : List ℕ} {far winner score : ℕ} (H : Holds m planes up far winner score) (masks : Masks) where
   abbrev st : Standing
   st = seen m planes up winner score
@@ -146,9 +175,7 @@ module _ {m : ℕ} {planes up : List ℕ} {far winner score : ℕ} (H : Holds m 
   -- what is seen, where the counts are t
   module _ {t : Tally} {r : Raced} (V : (let a : Raced = record { standing = st; tally = t } in a) ≡ r) where
     pub score_fits : Room r → score < counter_limit
-    score_fits R =
-        let room : Room (record { standing = st; tally = t }) = rw V R in
-        omega (arith, held_score H, room.scores.scores_fit winner)
+    score_fits R = leads_fits (held_leads H) V R
 
     -- what the deficits need
     pub passable : Room r → masks.rights < 2 ^ m → {all : ℕ} → all + 1 ≡ 2 ^ m → Passable far up masks.rights all
@@ -167,14 +194,11 @@ module _ {m : ℕ} {planes up : List ℕ} {far winner score : ℕ} (H : Holds m 
         dec {A} {j} f g = tested (ltb j m) (λ t. f (ltb-true _ _ t)) (λ t. g (ltb-false _ _ t))
 
   pub quiet : masks.rights ≡ 0 → settled (verdict_in masks) st m ≡ st
-  quiet z =
-      settled_missed (verdict_in masks) st m
-      (λ j l. sym (right_in masks j) ∙ unset masks.rights j (ap (λ (n : ℕ). digit n j) z ∙ digit_zero j))
+  quiet z = settled_quiet m masks z st
 
-  -- the whole place then
   pub seen_quiet : {t t' : Tally} {r : Raced} → (let a : Raced = record { standing = st; tally = t } in a) ≡ r → t' ≡ tallied (verdict_in masks winner) t
       → masks.rights ≡ 0 → (let a : Raced = record { standing = st; tally = t' } in a) ≡ judged m r (verdict_in masks)
-  seen_quiet V e z = rw (← V, e, quiet z) refl
+  seen_quiet V e z = judged_quiet m masks z V e
 
   module _ {planes' up' : List ℕ} {far' winner' gained : ℕ} (O : Onwards planes up masks.rights winner planes' far' up' winner' gained) where
     abbrev right : ℕ → Bool
@@ -191,6 +215,9 @@ module _ {m : ℕ} {planes up : List ℕ} {far winner score : ℕ} (H : Holds m 
 
     gained_is : gained ≡ gain right before m
     gained_is = rw H.many at O.gained_is
+
+    pub gained_le : gained ≤ 1
+    gained_le = rw gained_is (one (some_of (claims right before 0) m))
 
     next : Behind m (scored said 1 st m) (score + gained) (deficit_at planes' up')
     next =

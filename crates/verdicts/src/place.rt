@@ -71,7 +71,7 @@ impl<const M: usize> Race<M> {
     pub fn step(&mut self, masks: Masks)
         requires room { Room (raced_in M self.old) }
         requires narrow { masks.rights < 2 ^ M }
-        requires spoke { digit masks.rights self.old.winner ≤ digit masks.speaking self.old.winner }
+        requires spoke { self.old.winner < M → digit masks.rights self.old.winner ≤ digit masks.speaking self.old.winner }
         ensures { raced_in M self.new ≡ judged M (raced_in M self.old) (verdict_in masks) }
     {
         let rights = masks.rights;

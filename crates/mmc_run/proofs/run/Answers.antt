@@ -2,7 +2,7 @@
 -- `place` and `step` take each of them over the place. Assumes nothing.
 use mathlib.Core.Path.{refl, ◌∙◌}
 use native.Mathlib.Omega.{arith}
-use Rattle.mmc_run.proofs.Running.{running_starts, running_ends, running_leaves, running_room, place_before, recent_fits, place_narrow, place_spoke, running_next}
+use Rattle.mmc_run.proofs.Running.{running_starts, running_ends, running_leaves, running_room, place_before, recent_fits, place_fair, running_next}
 use Rattle.mmc_run.proofs.run.Goals as goal
 
 pub loop-i-init : goal.loop-i-init
@@ -20,8 +20,8 @@ place-passed-requires g c =
 pub step-requires : goal.step-requires
 step-requires g c =
     let s = c.in-Some.ensures.steps in
-    let A = rw s.1 at c.place-passed.ensures in
-    (omega arith, (running_room c.loop-i.invariant, (place_narrow c.loop-i.invariant s.0 A, place_spoke c.loop-i.invariant s.0 A)))
+    let F = place_fair c.loop-i.invariant s.0 (rw s.1 at c.place-passed.ensures) in
+    (omega arith, (running_room c.loop-i.invariant, (F.few, F.spoke _)))
 
 pub overflow_mul-recent : goal.overflow_mul-recent
 overflow_mul-recent g c = omega (arith, recent_fits c.loop-i.invariant c.in-Some.ensures.steps.0)

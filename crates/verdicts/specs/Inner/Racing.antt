@@ -26,7 +26,13 @@ abbrev pub raced_in : ℕ → Fields → Raced
 raced_in m f =
     record { standing = record { winner = f.winner; scores = scores_of f.score f.planes f.up m }; tally = f.tally }
 
--- of m sub-predictors: the largest score is the winner's, and `far` the mask of what is above the planes
+-- of m sub-predictors: the largest score is the winner's
+pub record Leads (m : ℕ) (planes up : List ℕ) (winner score : ℕ) : Type 0 where
+  pub within : winner < m
+  pub behind : (j : ℕ) → j < m → deficit_at planes up j ≤ score
+  pub winner_none : deficit_at planes up winner ≡ 0
+
+-- the same, `up` has m numbers, and `far` is the mask of what is above the planes
 pub record Holds (m : ℕ) (planes up : List ℕ) (far winner score : ℕ) : Type 0 where
   pub few : m ≤ 16
   pub many : length up ≡ m
